@@ -1,0 +1,13 @@
+pub mod Limits
+pub mod Answers
+pub mod Places
+pub mod Lines
+pub mod Stored
+pub mod Text
+pub mod Step
+pub mod Run
+pub mod Code
+pub mod Images
+pub mod Expansion
+pub mod Marks
+pub mod Claims

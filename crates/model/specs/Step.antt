@@ -1,0 +1,106 @@
+-- 'One step': what a line makes of a state, where it goes, and the row that it shows.
+-- Assumes nothing.
+use mathlib.Core.Bool.{Bool, true, false, not, cond}
+use mathlib.Core.List.{List, [], _∷_}
+use Prim.Native.Nat.{ℕ, suc, _+_, _-_, _*_, _/_, _%_, _^_}
+use lib.Dec.{eqb, ltb}
+use lib.Bits.{bitAnd, bitOr, bitXor}
+use lib.Count.{ones}
+use lib.ListN.{getD, set}
+use Rattle.model.specs.declared.Mark.{Mark}
+use Rattle.model.specs.declared.Mark.the-variants.{Unmarked, Marked}
+use Rattle.model.specs.declared.Opcode.{Opcode}
+use Rattle.model.specs.declared.Opcode.the-variants.{Nop, Jmp, Not, Mov, And, Orr, Xor, Lsl, Lsr, Add, Mul, Beq, Bne}
+use Rattle.model.specs.declared.Operand.{Operand}
+use Rattle.model.specs.declared.Target.{Target}
+use Rattle.model.specs.declared.Target.the-variants.{Empty as NoTarget, Line as ToLine}
+use Rattle.model.specs.declared.Line.{Line}
+use Rattle.model.specs.Places.{State, place, address, value}
+
+-- the Hamming weight: the ones in a number
+abbrev pub weight : ℕ → ℕ
+weight = ones
+
+-- the Hamming distance: the bits in which two numbers differ
+unfoldable pub distance : ℕ → ℕ → ℕ
+distance x y = ones (bitXor x y)
+
+-- add keeps the lowest eight bits
+abbrev pub wrappingAdd : ℕ → ℕ → ℕ
+wrappingAdd x y = (x + y) % 256
+
+-- the shift rule: a count of 8 or more gives 0
+abbrev pub shiftBy : ℕ → (ℕ → ℕ) → ℕ
+shiftBy y shift = cond (ltb y 8) (shift y) 0
+
+-- `not`: 255 less the value in a u line, the lowest bit flipped in an s line
+unfoldable pub negated : Mark → ℕ → ℕ
+negated Unmarked x = 255 - x
+negated Marked x = bitXor x 1
+
+-- what a line writes; 0 for one that writes nothing
+unfoldable pub alu : Mark → Opcode → ℕ → ℕ → ℕ
+unfolding negated
+alu m Nop x y = 0
+alu m Jmp x y = 0
+alu m Not x y = negated m x
+alu m Mov x y = x
+alu m And x y = bitAnd x y
+alu m Orr x y = bitOr x y
+alu m Xor x y = bitXor x y
+alu m Lsl x y = shiftBy y (λ n. x * 2 ^ n % 256)
+alu m Lsr x y = shiftBy y (λ n. x / 2 ^ n)
+alu m Add x y = wrappingAdd x y
+alu m Mul x y = x * y % 256
+alu m Beq x y = 0
+alu m Bne x y = 0
+
+-- whether a line goes to its target; whole bytes are compared
+unfoldable pub taken : Opcode → ℕ → ℕ → Bool
+taken Nop x y = false
+taken Jmp x y = true
+taken Not x y = false
+taken Mov x y = false
+taken And x y = false
+taken Orr x y = false
+taken Xor x y = false
+taken Lsl x y = false
+taken Lsr x y = false
+taken Add x y = false
+taken Mul x y = false
+taken Beq x y = eqb x y
+taken Bne x y = not (eqb x y)
+
+unfoldable pub goal : Target → ℕ
+goal NoTarget = 0
+goal (ToLine t) = t
+
+-- an argument, as a line of that mark reads it: the mark changes nothing here
+unfoldable pub argument : Mark → Operand → State → ℕ
+unfolding value
+argument m o s = value o s
+
+-- the parts of a step, all worked out from the state before the write: what is written,
+unfoldable pub result : Line → State → ℕ
+unfolding alu argument
+result l s = alu (l .mark) (l .opcode) (argument (l .mark) (l .first) s) (argument (l .mark) (l .second) s)
+
+-- the counter afterwards, k being the line,
+unfoldable pub next : Line → ℕ → State → ℕ
+unfolding taken argument goal
+next l k s = cond (taken (l .opcode) (argument (l .mark) (l .first) s) (argument (l .mark) (l .second) s)) (goal (l .target)) (suc k)
+
+-- the state afterwards,
+unfoldable pub after : Line → State → State
+unfolding result place
+after l s = set s (place (l .destination) s) (result l s)
+
+abbrev pub Row : Type 0
+Row = List ℕ
+
+-- and the row: the line, the weight of the written value, its distance from the old value of the written place, and the weights of
+-- the addresses of the first argument, the second and the destination; 0 where there is no write or no address
+unfoldable pub row : Line → ℕ → State → Row
+unfolding result place address distance
+row l k s = k ∷ weight (result l s) ∷ distance (getD s (place (l .destination) s) 0) (result l s)
+    ∷ weight (address (l .first) s) ∷ weight (address (l .second) s) ∷ weight (address (l .destination) s) ∷ []

@@ -1,0 +1,60 @@
+// The types of the language, and what every entry point answers. What they mean is said in specs/: every definition of
+// document 01. What is shown of the definitions alone, demand 3 among it, stands in proofs/. There is no entry point here.
+
+// Whether a line handles key bits: u is Unmarked, s is Marked.
+pub enum Mark {
+    Unmarked,
+    Marked,
+}
+
+pub enum Opcode {
+    Nop,
+    Jmp,
+    Not,
+    Mov,
+    And,
+    Orr,
+    Xor,
+    Lsl,
+    Lsr,
+    Add,
+    Mul,
+    Beq,
+    Bne,
+}
+
+// One field of a line: empty, `#n`, `rN`, `@n`, and the indirect forms `!rN+k`, `%rN+k` and `^rN+k`.
+pub enum Operand {
+    Empty,
+    Literal(u8),
+    Register(u8),
+    Cell(u16),
+    PublicCell { base: u8, offset: u8 },
+    SensitiveCell { base: u8, offset: u8 },
+    TableCell { base: u8, offset: u8 },
+}
+
+pub enum Target {
+    Empty,
+    Line(u16),
+}
+
+pub struct Line {
+    pub mark: Mark,
+    pub opcode: Opcode,
+    pub destination: Operand,
+    pub first: Operand,
+    pub second: Operand,
+    pub target: Target,
+}
+
+// What an entry point answers. `report` of specs/Answers gives the paper's number and values of each case.
+pub enum Answer {
+    // The lines read, checked or expanded, or the bytes written.
+    Count(u32),
+    // A run that reached the end of its program, and one that used up its budget.
+    Halted { counter: u16, steps: u16 },
+    Spent { counter: u16, steps: u16 },
+    // The number of the condition that holds, and the line.
+    Refused { number: u8, line: u16 },
+}
