@@ -1,0 +1,14 @@
+pub mod Runs
+pub mod Straight
+pub mod Parts
+pub mod PlaceLaws
+pub mod Operands
+pub mod Acceptance
+pub mod Finite
+pub mod Pieces
+pub mod ImageLaws
+pub mod Loads
+pub mod MarkedLines
+pub mod UnmarkedLines
+pub mod Simulation
+pub mod DemandThree

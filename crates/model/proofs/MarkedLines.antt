@@ -1,0 +1,349 @@
+-- A marked line: its macro from an image leaves the image of what the line leaves, and its rows turn on public numbers alone: the line
+-- number, the Hamming weights of the addresses, and those of the scratch registers. The pieces are joined. Assumes nothing.
+use mathlib.Core.Path.{_≡_, refl, sym, ap, ap₂, _∙_}
+use mathlib.Core.List.{List, [], _∷_, _++_}
+use Prim.Native.Nat.{ℕ, zero, suc, _+_, _%_, _≤_, _<_}
+use native.Mathlib.Omega.{arith}
+use lib.Dec.{T, lit<}
+use lib.ListN.{length, getD, set, length-append}
+use Rattle.model.specs.declared.Mark.the-variants.{Marked}
+use Rattle.model.specs.declared.Opcode.{Opcode}
+use Rattle.model.specs.declared.Opcode.the-variants.{Nop, Jmp, Not, Mov, And, Orr, Xor, Lsl, Lsr, Add, Mul, Beq, Bne}
+use Rattle.model.specs.declared.Operand.{Operand}
+use Rattle.model.specs.declared.Target.{Target}
+use Rattle.model.specs.Limits.{longest}
+use Rattle.model.specs.Places.{State, place, address}
+use Rattle.model.specs.Step.{Row, argument, alu, weight, next, taken}
+use Rattle.model.specs.Run.{Ran}
+use Rattle.model.specs.Lines.{fills}
+use Rattle.model.specs.Code.{code}
+use Rattle.model.specs.Images.{BitState, imageAt, SamePublic}
+use Rattle.model.specs.Expansion.{coded, load, scale, join, fetch, flip, store, lookup, negate, copy, macro}
+use Rattle.model.specs.Marks.{hasMacro}
+use Rattle.model.proofs.Runs.{ran}
+use Rattle.model.proofs.Straight.{exec, exec-then, Straight, straight-append}
+use Rattle.model.proofs.PlaceLaws.{mapAt-getD, bits-set}
+use Rattle.model.proofs.Operands.{SensitivePlace, steady-place, address-same}
+use Rattle.model.proofs.Acceptance.{mk, Masked, MaskedArgument}
+use Rattle.model.proofs.Finite.{tableAt, tableOp, tableWeight, low, scaled, joinedIndex, flipped, slot, code-weight, low-weight, flipped-weight, flipped-code, not-bit, index-weight, slot-low, slot-holds, table-bit}
+use Rattle.model.proofs.Pieces.{held, plus4, r1, r2, r3, scaleEnd, scaleShown, scale-shown, joinEnd, joinShown, join-shown, flipEnd, flipShown, flip-shown, fetchEnd, fetchShown, fetch-shown, storeShown, store-shown}
+use Rattle.model.proofs.ImageLaws.{zeros, rails, tail-length, Found, found, image-page, sensitive-bit, write-sensitive}
+use Rattle.model.proofs.Loads.{loadEnd, loadShown, Loaded, loaded, load-same, load-size, load-straight}
+
+-- the Hamming weights of r1, r2 and r3
+pub record Weights : Type 0 where
+  pub one : ℕ
+  pub two : ℕ
+  pub three : ℕ
+
+abbrev pub weights : ℕ → ℕ → ℕ → Weights
+weights x y z = record { one = x; two = y; three = z }
+
+-- v is the image of the bit state s but for r1 to r3, whose Hamming weights are w
+pub record Related (s v : State) (w : Weights) : Type 0 where
+  pub tail : List ℕ
+  pub x : ℕ
+  pub y : ℕ
+  pub z : ℕ
+  pub bits : BitState (zeros tail)
+  pub source : s ≡ zeros tail
+  pub image : v ≡ held x y z (rails tail)
+  pub one : weight x ≡ w .one
+  pub two : weight y ≡ w .two
+  pub three : weight z ≡ w .three
+
+-- ---- what is shown
+
+unfoldable pub copyShown : Operand → ℕ → ℕ → State → ℕ → List Row
+copyShown a k z s w = loadShown a k z s ++ storeShown (loadEnd a k) w
+
+unfoldable pub negateShown : Operand → ℕ → ℕ → State → ℕ → List Row
+negateShown a k x s w = loadShown a k x s ++ (flipShown (loadEnd a k) ++ storeShown (flipEnd (loadEnd a k)) w)
+
+-- where the second load, the join, the fetch and the store begin
+abbrev secondAt : Operand → ℕ → ℕ
+secondAt a k = scaleEnd (loadEnd a k)
+
+abbrev joinAt : Operand → Operand → ℕ → ℕ
+joinAt a b k = loadEnd b (secondAt a k)
+
+abbrev fetchAt : Operand → Operand → ℕ → ℕ
+fetchAt a b k = joinEnd (joinAt a b k)
+
+abbrev storeAt : Operand → Operand → ℕ → ℕ
+storeAt a b k = fetchEnd (fetchAt a b k)
+
+unfoldable pub lookupShown : Operand → Operand → ℕ → Weights → State → ℕ → ℕ → List Row
+lookupShown a b k e s n w =
+    loadShown a k (e .one) s ++ (scaleShown (loadEnd a k) ++ (loadShown b (secondAt a k) (e .two) s
+    ++ (joinShown (joinAt a b k) ++ (fetchShown (fetchAt a b k) (e .three) n ++ storeShown (storeAt a b k) w))))
+
+-- the rows of a marked line's part that begins at k
+unfoldable pub shown : Opcode → Operand → Operand → Operand → ℕ → State → Weights → List Row
+unfolding copyShown negateShown lookupShown
+shown Nop d a b k s w = []
+shown Jmp d a b k s w = []
+shown Not d a b k s w = negateShown a k (w .one) s (weight (address d s))
+shown Mov d a b k s w = copyShown a k (w .three) s (weight (address d s))
+shown And d a b k s w = lookupShown a b k w s (tableWeight 0) (weight (address d s))
+shown Orr d a b k s w = lookupShown a b k w s (tableWeight 1) (weight (address d s))
+shown Xor d a b k s w = lookupShown a b k w s (tableWeight 2) (weight (address d s))
+shown Lsl d a b k s w = []
+shown Lsr d a b k s w = []
+shown Add d a b k s w = []
+shown Mul d a b k s w = []
+shown Beq d a b k s w = []
+shown Bne d a b k s w = []
+
+-- the Hamming weights of the scratch registers afterwards
+unfoldable pub weighed : Opcode → Weights → Weights
+weighed Nop w = w
+weighed Jmp w = w
+weighed Not w = weights 1 (w .two) (w .three)
+weighed Mov w = weights (w .one) (w .two) 1
+weighed And w = weights 2 1 1
+weighed Orr w = weights 2 1 1
+weighed Xor w = weights 2 1 1
+weighed Lsl w = w
+weighed Lsr w = w
+weighed Add w = w
+weighed Mul w = w
+weighed Beq w = w
+weighed Bne w = w
+
+-- ---- what is left
+
+-- a macro's run: its rows, and that it leaves the image of s
+pub record Done (g : Ran) (s : State) (w : Weights) (rows : List Row) : Type 0 where
+  pub shows : g .rows ≡ rows
+  pub related : Related s (g .state) w
+
+module _ (r : List ℕ) (bits : BitState (zeros r)) where
+  -- the source's bit c written, and its code in the image
+  done : {g : Ran} (d : Operand) (D : Found r d) (c n k x y z : ℕ) (w : Weights) (rows : List Row) → c < 2 → n ≡ c
+      → g ≡ ran k (held x y z (set (rails r) (D .at) (code c))) rows
+      → weight x ≡ w .one → weight y ≡ w .two → weight z ≡ w .three → Done g (set (zeros r) (place d (zeros r)) n) w rows
+  done d D c n k x y z w rows h en e wx wy wz =
+      record {
+        shows = ap (λ (g : Ran). g .rows) e;
+        related = record {
+          tail = set r (D .at) c;
+          x = x;
+          y = y;
+          z = z;
+          bits = bits-set (zeros r) (plus4 (D .at)) c bits (sensitive-bit (plus4 (D .at)) c (D .sensitive) (omega arith));
+          source = ap₂ (set (zeros r)) (D .names) en;
+          image = ap (λ (g : Ran). g .state) e ∙ ap (held x y z) (write-sensitive r bits (D .at) c (D .sensitive));
+          one = wx;
+          two = wy;
+          three = wz;
+        };
+      }
+
+  -- one macro from an image whose scratch registers hold x, y and z
+  module _ (d : Operand) (hd : SensitivePlace d) (k x y z : ℕ) (w : Weights) (wx : weight x ≡ w .one) (wy : weight y ≡ w .two) (wz : weight z ≡ w .three) where
+    copy-done : (a : Operand) → MaskedArgument a
+        → Done (exec (copy d (coded a)) k (held x y z (rails r))) (set (zeros r) (place d (zeros r)) (argument Marked a (zeros r)))
+        (weights (w .one) (w .two) 1) (copyShown a k (w .three) (zeros r) (weight (address d (zeros r))))
+    unfolding copy copyShown
+    copy-done a ha =
+        let A = loaded r bits a ha in
+        let D = found r bits d hd in
+        let c = argument Marked a (zeros r) in
+        let w3 = ap (λ (n : ℕ). loadShown a k n (zeros r)) wz in
+        done d D c c _ x y (code c) _ _ (A .bit) refl
+        (exec-then (load 3 (coded a)) (store 3 d) k (held x y z (rails r))
+        (A .loads r3 k x y z ∙ ap (ran (loadEnd a k) (held x y (code c) (rails r))) w3)
+        (store-shown r3 d c (getD r (D .at) 0) (A .bit) (D .bit) (loadEnd a k) x y (code c) (rails r) (D .at) (address d (zeros r)) refl (D .holds) (D .destination)))
+        wx wy (code-weight c (A .bit))
+
+    negate-done : (a b : Operand) → MaskedArgument a
+        → Done (exec (negate d (coded a)) k (held x y z (rails r))) (set (zeros r) (place d (zeros r)) (alu Marked Not (argument Marked a (zeros r)) (argument Marked b (zeros r))))
+        (weights 1 (w .two) (w .three)) (negateShown a k (w .one) (zeros r) (weight (address d (zeros r))))
+    unfolding negate negateShown alu
+    negate-done a b ha =
+        let A = loaded r bits a ha in
+        let D = found r bits d hd in
+        let n = argument Marked a (zeros r) in
+        let c = alu Marked Not n 0 in
+        let w1 = ap (λ (n : ℕ). loadShown a k n (zeros r)) wx in
+        done d D c (alu Marked Not n (argument Marked b (zeros r))) _ (flipped (code n)) y z _ _ (not-bit n (A .bit)) refl
+        (exec-then (load 1 (coded a)) (flip ++ store 1 d) k (held x y z (rails r))
+        (A .loads r1 k x y z ∙ ap (ran (loadEnd a k) (held (code n) y z (rails r))) w1)
+        (exec-then flip (store 1 d) (loadEnd a k) (held (code n) y z (rails r))
+        (flip-shown n (A .bit) (loadEnd a k) y z (rails r))
+        (store-shown r1 d c (getD r (D .at) 0) (not-bit n (A .bit)) (D .bit) (flipEnd (loadEnd a k)) (flipped (code n)) y z (rails r) (D .at) (address d (zeros r))
+        (flipped-code n (A .bit)) (D .holds) (D .destination))))
+        (flipped-weight n (A .bit)) wy wz
+
+    lookup-done : (o : ℕ) → o < 3 → (a b : Operand) → MaskedArgument a → MaskedArgument b
+        → Done (exec (lookup (tableAt o) d (coded a) (coded b)) k (held x y z (rails r)))
+        (set (zeros r) (place d (zeros r)) (alu Marked (tableOp o) (argument Marked a (zeros r)) (argument Marked b (zeros r))))
+        (weights 2 1 1) (lookupShown a b k w (zeros r) (tableWeight o) (weight (address d (zeros r))))
+    unfolding lookup lookupShown
+    lookup-done o ho a b ha hb =
+        let A = loaded r bits a ha in
+        let B = loaded r bits b hb in
+        let D = found r bits d hd in
+        let t = tableAt o in
+        let m = argument Marked a (zeros r) in
+        let n = argument Marked b (zeros r) in
+        let c = alu Marked (tableOp o) m n in
+        let hc = table-bit o m n ho (A .bit) (B .bit) in
+        let i = joinedIndex (code m) (code n) in
+        let at = 284 + slot o m n in
+        let inside = slot-low o m n ho (A .bit) (B .bit) in
+        let points : 288 + slot o m n % 256 ≡ plus4 at = omega arith in
+        let holds : getD (rails r) at 0 ≡ code c =
+        mapAt-getD imageAt 4 r at (omega (arith, tail-length r bits)) ∙ image-page (slot o m n) (getD r at 0) ∙ slot-holds o m n ho (A .bit) (B .bit) in
+        let w1 = ap (λ (n : ℕ). loadShown a k n (zeros r)) wx in
+        let w2 = ap (λ (n : ℕ). loadShown b (secondAt a k) n (zeros r)) wy in
+        done d D c c _ i (low (code n)) (code c) _ _ hc refl
+        (exec-then (load 1 (coded a)) (scale ++ (load 2 (coded b) ++ (join ++ (fetch t ++ store 3 d)))) k (held x y z (rails r))
+        (A .loads r1 k x y z ∙ ap (ran (loadEnd a k) (held (code m) y z (rails r))) w1)
+        (exec-then scale (load 2 (coded b) ++ (join ++ (fetch t ++ store 3 d))) (loadEnd a k) (held (code m) y z (rails r))
+        (scale-shown m (A .bit) (loadEnd a k) y z (rails r))
+        (exec-then (load 2 (coded b)) (join ++ (fetch t ++ store 3 d)) (secondAt a k) (held (scaled (code m)) y z (rails r))
+        (B .loads r2 (secondAt a k) (scaled (code m)) y z ∙ ap (ran (joinAt a b k) (held (scaled (code m)) (code n) z (rails r))) w2)
+        (exec-then join (fetch t ++ store 3 d) (joinAt a b k) (held (scaled (code m)) (code n) z (rails r))
+        (join-shown m n (A .bit) (B .bit) (joinAt a b k) z (rails r))
+        (exec-then (fetch t) (store 3 d) (fetchAt a b k) (held i (low (code n)) z (rails r))
+        (fetch-shown o m n c ho (A .bit) (B .bit) hc (fetchAt a b k) (low (code n)) z (w .three) (rails r) at wz points holds)
+        (store-shown r3 d c (getD r (D .at) 0) hc (D .bit) (storeAt a b k) i (low (code n)) (code c) (rails r) (D .at) (address d (zeros r)) refl (D .holds) (D .destination)))))))
+        (index-weight o m n ho (A .bit) (B .bit)) (low-weight n (B .bit)) (code-weight c hc)
+
+  pub macro-done : (op : Opcode) (d a b : Operand) → Masked op d a b → (k x y z : ℕ) (w : Weights) → weight x ≡ w .one → weight y ≡ w .two → weight z ≡ w .three
+      → Done (exec (macro op d (coded a) (coded b)) k (held x y z (rails r)))
+      (set (zeros r) (place d (zeros r)) (alu Marked op (argument Marked a (zeros r)) (argument Marked b (zeros r)))) (weighed op w) (shown op d a b k (zeros r) w)
+  unfolding macro weighed shown alu hasMacro fills
+  macro-done Nop d a b M k x y z w wx wy wz = absurd (M .able)
+  macro-done Jmp d a b M k x y z w wx wy wz = absurd (M .able)
+  macro-done Not d a b M k x y z w wx wy wz = negate-done d (M .destination tt) k x y z w wx wy wz a b (M .first tt)
+  macro-done Mov d a b M k x y z w wx wy wz = copy-done d (M .destination tt) k x y z w wx wy wz a (M .first tt)
+  macro-done And d a b M k x y z w wx wy wz = lookup-done d (M .destination tt) k x y z w wx wy wz 0 (lit< tt) a b (M .first tt) (M .second tt)
+  macro-done Orr d a b M k x y z w wx wy wz = lookup-done d (M .destination tt) k x y z w wx wy wz 1 (lit< tt) a b (M .first tt) (M .second tt)
+  macro-done Xor d a b M k x y z w wx wy wz = lookup-done d (M .destination tt) k x y z w wx wy wz 2 (lit< tt) a b (M .first tt) (M .second tt)
+  macro-done Lsl d a b M k x y z w wx wy wz = absurd (M .able)
+  macro-done Lsr d a b M k x y z w wx wy wz = absurd (M .able)
+  macro-done Add d a b M k x y z w wx wy wz = absurd (M .able)
+  macro-done Mul d a b M k x y z w wx wy wz = absurd (M .able)
+  macro-done Beq d a b M k x y z w wx wy wz = absurd (M .able)
+  macro-done Bne d a b M k x y z w wx wy wz = absurd (M .able)
+
+-- ---- the same is shown in states that agree in the public places
+
+module _ (s t : State) (h : SamePublic s t) where
+  lookup-same : (d a b : Operand) → SensitivePlace d → MaskedArgument a → MaskedArgument b → (k n : ℕ) (w : Weights)
+      → lookupShown a b k w s n (weight (address d s)) ≡ lookupShown a b k w t n (weight (address d t))
+  unfolding lookupShown
+  lookup-same d a b hd ha hb k n w =
+      rw (address-same s t h d (steady-place d hd), load-same s t h a ha k (w .one), load-same s t h b hb (secondAt a k) (w .two))
+
+  pub shown-same : (op : Opcode) (d a b : Operand) → Masked op d a b → (k : ℕ) (w : Weights) → shown op d a b k s w ≡ shown op d a b k t w
+  unfolding shown copyShown negateShown fills
+  shown-same Nop d a b M k w = refl
+  shown-same Jmp d a b M k w = refl
+  shown-same Not d a b M k w = rw (address-same s t h d (steady-place d (M .destination tt)), load-same s t h a (M .first tt) k (w .one))
+  shown-same Mov d a b M k w = rw (address-same s t h d (steady-place d (M .destination tt)), load-same s t h a (M .first tt) k (w .three))
+  shown-same And d a b M k w = lookup-same d a b (M .destination tt) (M .first tt) (M .second tt) k (tableWeight 0) w
+  shown-same Orr d a b M k w = lookup-same d a b (M .destination tt) (M .first tt) (M .second tt) k (tableWeight 1) w
+  shown-same Xor d a b M k w = lookup-same d a b (M .destination tt) (M .first tt) (M .second tt) k (tableWeight 2) w
+  shown-same Lsl d a b M k w = refl
+  shown-same Lsr d a b M k w = refl
+  shown-same Add d a b M k w = refl
+  shown-same Mul d a b M k w = refl
+  shown-same Beq d a b M k w = refl
+  shown-same Bne d a b M k w = refl
+
+-- ---- a macro is straight, and has at least one line and at most `longest`
+
+piece-straight : (t n : ℕ) (d : Operand) → (Straight scale × Straight join) × (Straight (fetch t) × (Straight flip × Straight (store n d)))
+unfolding scale join fetch flip store next taken
+piece-straight t n d = (
+  (((λ k s. refl), ((λ k s. refl), ((λ k s. refl), tt))), ((λ k s. refl), ((λ k s. refl), tt))),
+  (((λ k s. refl), ((λ k s. refl), tt)), (((λ k s. refl), tt), ((λ k s. refl), ((λ k s. refl), tt)))),
+)
+
+lookup-straight : (t : ℕ) (d a b : Operand) → Straight (lookup t d a b)
+unfolding lookup
+lookup-straight t d a b =
+    let P = piece-straight t 3 d in
+    straight-append (load 1 a) (scale ++ (load 2 b ++ (join ++ (fetch t ++ store 3 d)))) (load-straight 1 a)
+    (straight-append scale (load 2 b ++ (join ++ (fetch t ++ store 3 d))) (P .0 .0)
+    (straight-append (load 2 b) (join ++ (fetch t ++ store 3 d)) (load-straight 2 b)
+    (straight-append join (fetch t ++ store 3 d) (P .0 .1)
+    (straight-append (fetch t) (store 3 d) (P .1 .0) (P .1 .1 .1)))))
+
+pub macro-straight : (op : Opcode) (d a b : Operand) → Straight (macro op d a b)
+unfolding macro negate copy
+macro-straight Nop d a b = tt
+macro-straight Jmp d a b = tt
+macro-straight Not d a b =
+    let P = piece-straight 0 1 d in
+    straight-append (load 1 a) (flip ++ store 1 d) (load-straight 1 a) (straight-append flip (store 1 d) (P .1 .1 .0) (P .1 .1 .1))
+macro-straight Mov d a b = straight-append (load 3 a) (store 3 d) (load-straight 3 a) (piece-straight 0 3 d .1 .1 .1)
+macro-straight And d a b = lookup-straight (tableAt 0) d a b
+macro-straight Orr d a b = lookup-straight (tableAt 1) d a b
+macro-straight Xor d a b = lookup-straight (tableAt 2) d a b
+macro-straight Lsl d a b = tt
+macro-straight Lsr d a b = tt
+macro-straight Add d a b = tt
+macro-straight Mul d a b = tt
+macro-straight Beq d a b = tt
+macro-straight Bne d a b = tt
+
+lookup-size : (t : ℕ) (d a b : Operand) → (1 ≤ length (lookup t d a b)) × (length (lookup t d a b) ≤ longest)
+unfolding lookup scale join fetch store
+lookup-size t d a b =
+    rw (length-append (load 1 a) (scale ++ (load 2 b ++ (join ++ (fetch t ++ store 3 d)))), length-append (load 2 b) (join ++ (fetch t ++ store 3 d)))
+    (omega (arith, load-size 1 a, load-size 2 b))
+
+pub macro-size : (op : Opcode) (d a b : Operand) → T (hasMacro op) → (1 ≤ length (macro op d a b)) × (length (macro op d a b) ≤ longest)
+unfolding macro hasMacro negate copy flip store
+macro-size Nop d a b h = absurd h
+macro-size Jmp d a b h = absurd h
+macro-size Not d a b h = rw (length-append (load 1 a) (flip ++ store 1 d)) (omega (arith, load-size 1 a))
+macro-size Mov d a b h = rw (length-append (load 3 a) (store 3 d)) (omega (arith, load-size 3 a))
+macro-size And d a b h = lookup-size (tableAt 0) d a b
+macro-size Orr d a b h = lookup-size (tableAt 1) d a b
+macro-size Xor d a b h = lookup-size (tableAt 2) d a b
+macro-size Lsl d a b h = absurd h
+macro-size Lsr d a b h = absurd h
+macro-size Add d a b h = absurd h
+macro-size Mul d a b h = absurd h
+macro-size Beq d a b h = absurd h
+macro-size Bne d a b h = absurd h
+
+-- a marked line goes on to the next
+pub next-marked : (op : Opcode) (d a b : Operand) (t : Target) → T (hasMacro op) → (k : ℕ) (s : State) → next (mk Marked op d a b t) k s ≡ suc k
+unfolding hasMacro next taken
+next-marked Nop d a b t h k s = refl
+next-marked Jmp d a b t h k s = absurd h
+next-marked Not d a b t h k s = refl
+next-marked Mov d a b t h k s = refl
+next-marked And d a b t h k s = refl
+next-marked Orr d a b t h k s = refl
+next-marked Xor d a b t h k s = refl
+next-marked Lsl d a b t h k s = refl
+next-marked Lsr d a b t h k s = refl
+next-marked Add d a b t h k s = refl
+next-marked Mul d a b t h k s = refl
+next-marked Beq d a b t h k s = absurd h
+next-marked Bne d a b t h k s = absurd h
+
+-- and has a destination
+pub marked-destination : (op : Opcode) (d a b : Operand) → Masked op d a b → SensitivePlace d
+unfolding hasMacro fills
+marked-destination Nop d a b M = absurd (M .able)
+marked-destination Jmp d a b M = absurd (M .able)
+marked-destination Not d a b M = M .destination tt
+marked-destination Mov d a b M = M .destination tt
+marked-destination And d a b M = M .destination tt
+marked-destination Orr d a b M = M .destination tt
+marked-destination Xor d a b M = M .destination tt
+marked-destination Lsl d a b M = M .destination tt
+marked-destination Lsr d a b M = M .destination tt
+marked-destination Add d a b M = M .destination tt
+marked-destination Mul d a b M = M .destination tt
+marked-destination Beq d a b M = absurd (M .able)
+marked-destination Bne d a b M = absurd (M .able)

@@ -1,0 +1,169 @@
+-- The pieces of the macros, done line after line on a state whose first four places are written out, and their rows by public numbers
+-- alone. Each is computed; what a bit could change is the finite part's. Assumes nothing.
+use mathlib.Core.Path.{_≡_, refl, ap, _∙_}
+use mathlib.Core.List.{List, [], _∷_, _++_}
+use Prim.Native.Nat.{ℕ, zero, suc, _+_, _%_, _<_}
+use lib.Bits.{xor-zero-r, bitXor, bitAnd, bitOr}
+use lib.Count.{ones}
+use lib.ListN.{length, getD, set}
+use lib.Seq.{getD-set-same, set-set}
+use Rattle.model.specs.declared.Operand.{Operand}
+use Rattle.model.specs.Places.{State, place, address, value}
+use Rattle.model.specs.Step.{Row, row, after, result, argument, alu, weight, distance}
+use Rattle.model.specs.Code.{code}
+use Rattle.model.specs.Expansion.{load, scale, join, fetch, flip, store}
+use Rattle.model.proofs.Runs.{ran}
+use Rattle.model.proofs.Straight.{exec}
+use Rattle.model.proofs.Finite.{low, twice, scaled, joinedIndex, flipped, slot, tableAt, tableOp, tableWeight, code-weight, code-loaded, code-cleared, low-weight, low-distance, twice-weight, twice-distance, scaled-weight, scaled-distance, flipped-weight, flipped-distance, index-weight, index-distance, slot-weight}
+
+-- a state by its first four places, of which r0 is 0
+abbrev pub held : ℕ → ℕ → ℕ → List ℕ → State
+held x y z r = 0 ∷ x ∷ y ∷ z ∷ r
+
+abbrev pub plus4 : ℕ → ℕ
+plus4 n = suc (suc (suc (suc n)))
+
+pub distance-zero : (x : ℕ) → distance x 0 ≡ weight x
+unfolding distance
+distance-zero x = ap ones (xor-zero-r x)
+
+-- a row by its line, the new and the old value, and the three addresses
+abbrev pub shows : ℕ → ℕ → ℕ → ℕ → ℕ → ℕ → Row
+shows k new old u v w = k ∷ weight new ∷ distance old new ∷ weight u ∷ weight v ∷ weight w ∷ []
+
+-- a row by its numbers
+abbrev pub six : ℕ → ℕ → ℕ → ℕ → ℕ → ℕ → Row
+six k n c u v w = k ∷ n ∷ c ∷ u ∷ v ∷ w ∷ []
+
+-- ---- the scratch registers r1 to r3
+
+pub data Scratch : ℕ → Type 0 where
+  r1 : Scratch 1
+  r2 : Scratch 2
+  r3 : Scratch 3
+
+-- what one of them holds, and the state with v in it
+abbrev pub got : {n : ℕ} → Scratch n → ℕ → ℕ → ℕ → ℕ
+got r1 x y z = x
+got r2 x y z = y
+got r3 x y z = z
+
+abbrev pub kept : {n : ℕ} → Scratch n → ℕ → ℕ → ℕ → ℕ → List ℕ → State
+kept r1 v x y z r = held v y z r
+kept r2 v x y z r = held x v z r
+kept r3 v x y z r = held x y v r
+
+-- ---- load: an operand whose value and address do not turn on the scratch registers
+
+pub record Source (a : Operand) (r : List ℕ) (v u : ℕ) : Type 0 where
+  pub reads : (x y z : ℕ) → value a (held x y z r) ≡ v
+  pub stands : (x y z : ℕ) → address a (held x y z r) ≡ u
+
+pub load-exec : {n : ℕ} (S : Scratch n) (a : Operand) (k x y z : ℕ) (r : List ℕ) (v u : ℕ) → Source a r v u
+    → exec (load n a) k (held x y z r) ≡ ran (suc (suc k)) (kept S v x y z r) (shows k 0 (got S x y z) 0 0 0 ∷ shows (suc k) v 0 u 0 0 ∷ [])
+unfolding load exec row after result alu argument value place address
+load-exec r1 a k x y z r v u A = simp (A .reads, A .stands)
+load-exec r2 a k x y z r v u A = simp (A .reads, A .stands)
+load-exec r3 a k x y z r v u A = simp (A .reads, A .stands)
+
+-- ---- scale, join, flip: on registers alone
+
+abbrev pub scaleEnd : ℕ → ℕ
+scaleEnd k = suc (suc (suc k))
+
+unfoldable pub scaleShown : ℕ → List Row
+scaleShown k = six k 1 0 0 0 0 ∷ six (suc k) 1 2 0 0 0 ∷ six (suc (suc k)) 1 2 0 0 0 ∷ []
+
+scale-exec : (k x y z : ℕ) (r : List ℕ) → exec scale k (held x y z r) ≡ ran (scaleEnd k) (held (scaled x) y z r)
+    (shows k (low x) x 0 0 0 ∷ shows (suc k) (twice (low x)) (low x) 0 0 0 ∷ shows (suc (suc k)) (scaled x) (twice (low x)) 0 0 0 ∷ [])
+unfolding scale exec row after result alu argument value place address
+scale-exec k x y z r = refl
+
+pub scale-shown : (a : ℕ) → a < 2 → (k y z : ℕ) (r : List ℕ) → exec scale k (held (code a) y z r) ≡ ran (scaleEnd k) (held (scaled (code a)) y z r) (scaleShown k)
+unfolding scaleShown ones
+scale-shown a h k y z r =
+    scale-exec k (code a) y z r ∙ rw (low-weight a h, low-distance a h, twice-weight a h, twice-distance a h, scaled-weight a h, scaled-distance a h)
+
+abbrev pub joinEnd : ℕ → ℕ
+joinEnd k = suc (suc k)
+
+unfoldable pub joinShown : ℕ → List Row
+joinShown k = six k 1 0 0 0 0 ∷ six (suc k) 2 1 0 0 0 ∷ []
+
+join-exec : (k x y z : ℕ) (r : List ℕ) → exec join k (held x y z r) ≡ ran (joinEnd k) (held (bitOr x (low y)) (low y) z r)
+    (shows k (low y) y 0 0 0 ∷ shows (suc k) (bitOr x (low y)) x 0 0 0 ∷ [])
+unfolding join exec row after result alu argument value place address
+join-exec k x y z r = refl
+
+pub join-shown : (a b : ℕ) → a < 2 → b < 2 → (k z : ℕ) (r : List ℕ)
+    → exec join k (held (scaled (code a)) (code b) z r) ≡ ran (joinEnd k) (held (joinedIndex (code a) (code b)) (low (code b)) z r) (joinShown k)
+unfolding joinShown ones
+join-shown a b ha hb k z r =
+    join-exec k (scaled (code a)) (code b) z r
+    ∙ rw (low-weight b hb, low-distance b hb, index-weight 0 a b (lib.Dec.lit< tt) ha hb, index-distance 0 a b (lib.Dec.lit< tt) ha hb)
+
+abbrev pub flipEnd : ℕ → ℕ
+flipEnd k = suc k
+
+unfoldable pub flipShown : ℕ → List Row
+flipShown k = six k 1 2 0 0 0 ∷ []
+
+flip-exec : (k x y z : ℕ) (r : List ℕ) → exec flip k (held x y z r) ≡ ran (flipEnd k) (held (flipped x) y z r) (shows k (flipped x) x 0 0 0 ∷ [])
+unfolding flip exec row after result alu argument value place address
+flip-exec k x y z r = refl
+
+pub flip-shown : (a : ℕ) → a < 2 → (k y z : ℕ) (r : List ℕ) → exec flip k (held (code a) y z r) ≡ ran (flipEnd k) (held (flipped (code a)) y z r) (flipShown k)
+unfolding flipShown ones
+flip-shown a h k y z r = flip-exec k (code a) y z r ∙ rw (flipped-weight a h, flipped-distance a h)
+
+-- ---- fetch: the entry at the index in r1
+
+abbrev pub fetchEnd : ℕ → ℕ
+fetchEnd k = suc (suc k)
+
+unfoldable pub fetchShown : ℕ → ℕ → ℕ → List Row
+fetchShown k z n = six k 0 z 0 0 0 ∷ six (suc k) 1 1 n 0 0 ∷ []
+
+fetch-exec : (t k x y z : ℕ) (r : List ℕ) (i v : ℕ) → 288 + (x + t) % 256 ≡ plus4 i → getD r i 0 ≡ v
+    → exec (fetch t) k (held x y z r) ≡ ran (fetchEnd k) (held x y v r) (shows k 0 z 0 0 0 ∷ shows (suc k) v 0 (256 + (x + t) % 256) 0 0 ∷ [])
+unfolding fetch exec row after result alu argument value place address
+fetch-exec t k x y z r i v e f = simp (e, f)
+
+pub fetch-shown : (o a b c : ℕ) → o < 3 → a < 2 → b < 2 → c < 2 → (k y z w : ℕ) (r : List ℕ) (i : ℕ)
+    → weight z ≡ w → 288 + slot o a b % 256 ≡ plus4 i → getD r i 0 ≡ code c
+    → exec (fetch (tableAt o)) k (held (joinedIndex (code a) (code b)) y z r)
+    ≡ ran (fetchEnd k) (held (joinedIndex (code a) (code b)) y (code c) r) (fetchShown k w (tableWeight o))
+unfolding fetchShown ones
+fetch-shown o a b c ho ha hb hc k y z w r i ez e f =
+    fetch-exec (tableAt o) k (joinedIndex (code a) (code b)) y z r i (code c) e f
+    ∙ rw (distance-zero z ∙ ez, code-weight c hc, code-loaded c hc, slot-weight o a b ho ha hb)
+
+-- ---- store: a destination whose place and address do not turn on the scratch registers nor on what it holds
+
+pub record Destination (d : Operand) (r : List ℕ) (q w : ℕ) : Type 0 where
+  pub within : q < length r
+  pub names : (x y z : ℕ) → place d (held x y z r) ≡ plus4 q
+  pub stands : (x y z : ℕ) → address d (held x y z r) ≡ w
+  pub namesCleared : (x y z : ℕ) → place d (held x y z (set r q 0)) ≡ plus4 q
+  pub standsCleared : (x y z : ℕ) → address d (held x y z (set r q 0)) ≡ w
+
+abbrev pub storeEnd : ℕ → ℕ
+storeEnd k = suc (suc k)
+
+unfoldable pub storeShown : ℕ → ℕ → List Row
+storeShown k w = six k 0 1 0 0 w ∷ six (suc k) 1 1 0 0 w ∷ []
+
+store-exec : {n : ℕ} (S : Scratch n) (d : Operand) (k x y z : ℕ) (r : List ℕ) (q w : ℕ) → Destination d r q w
+    → exec (store n d) k (held x y z r) ≡ ran (storeEnd k) (held x y z (set r q (got S x y z)))
+    (shows k 0 (getD r q 0) 0 0 w ∷ shows (suc k) (got S x y z) 0 0 0 w ∷ [])
+unfolding store exec row after result alu argument value place address
+store-exec r1 d k x y z r q w D = simp (D .names, D .stands, D .namesCleared, D .standsCleared, getD-set-same r q 0 0 (D .within), set-set r q 0 x)
+store-exec r2 d k x y z r q w D = simp (D .names, D .stands, D .namesCleared, D .standsCleared, getD-set-same r q 0 0 (D .within), set-set r q 0 y)
+store-exec r3 d k x y z r q w D = simp (D .names, D .stands, D .namesCleared, D .standsCleared, getD-set-same r q 0 0 (D .within), set-set r q 0 z)
+
+pub store-shown : {n : ℕ} (S : Scratch n) (d : Operand) (c old : ℕ) → c < 2 → old < 2 → (k x y z : ℕ) (r : List ℕ) (q w : ℕ)
+    → got S x y z ≡ code c → getD r q 0 ≡ code old → Destination d r q w
+    → exec (store n d) k (held x y z r) ≡ ran (storeEnd k) (held x y z (set r q (code c))) (storeShown k (weight w))
+unfolding storeShown ones
+store-shown S d c old hc ho k x y z r q w eg eo D =
+    store-exec S d k x y z r q w D ∙ rw (eg, eo, code-cleared old ho, code-weight c hc, code-loaded c hc)
