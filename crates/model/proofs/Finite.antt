@@ -62,7 +62,7 @@ pub record Pair : Type 0 where
   pub left : ℕ
   pub right : ℕ
 
-abbrev pair : ℕ → ℕ → Pair
+abbrev pub pair : ℕ → ℕ → Pair
 pair x y = record { left = x; right = y }
 
 -- 1 where m is below n
@@ -96,7 +96,7 @@ pairs o a b =
     ∷ pair (under c 2) 1
     ∷ []
 
-abbrev agree : List Pair → Bool
+abbrev pub agree : List Pair → Bool
 agree [] = true
 agree (p ∷ ps) = eqb (p .left) (p .right) && agree ps
 

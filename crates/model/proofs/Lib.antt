@@ -12,3 +12,6 @@ pub mod MarkedLines
 pub mod UnmarkedLines
 pub mod Simulation
 pub mod DemandThree
+pub mod BackLaws
+pub mod Edges
+pub mod AtOneProgram

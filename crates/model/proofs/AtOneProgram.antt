@@ -1,0 +1,63 @@
+-- Both claims of demand 3, computed at one small program for all its sensitive bits: an instance that the general proof does not lean
+-- on, and that an edit of a macro breaks first. Assumes nothing.
+use mathlib.Core.Path.{refl}
+use mathlib.Core.Bool.{Bool, true, false, _&&_}
+use mathlib.Core.List.{List, [], _∷_}
+use Prim.Native.Nat.{ℕ}
+use lib.Count.{ones}
+use lib.Dec.{T, lit≤}
+use lib.ListN.{replicate, set, drop}
+use Rattle.model.specs.declared.Mark.the-variants.{Unmarked}
+use Rattle.model.specs.declared.Opcode.the-variants.{Not, Mov, And, Orr, Xor, Beq}
+use Rattle.model.specs.declared.Operand.the-variants.{Empty, Literal, Register}
+use Rattle.model.specs.declared.Target.the-variants.{Empty as NoTarget, Line as ToLine}
+use Rattle.model.specs.declared.Line.{Line}
+use Rattle.model.specs.Places.{State}
+use Rattle.model.specs.Lines.{correct}
+use Rattle.model.specs.Text.{sameBytes}
+use Rattle.model.specs.Step.{Row, row, next, after}
+use Rattle.model.specs.Run.{run}
+use Rattle.model.specs.Images.{image}
+use Rattle.model.specs.Expansion.{two, move, load, scale, join, fetch, flip, store, start, expand}
+use Rattle.model.specs.Marks.{markFault, AllRight, Accepted}
+
+-- ---- a program with every macro, where the destination is an argument, with a public literal and a target behind a macro
+
+abbrev small : List Line
+small =
+    record { mark = Unmarked; opcode = Mov; destination = Register 4; first = Literal 5; second = Empty; target = NoTarget }
+    ∷ two And (Register 16) (Register 16) (Register 17)
+    ∷ two Orr (Register 17) (Register 17) (Register 16)
+    ∷ record { mark = Unmarked; opcode = Beq; destination = Empty; first = Register 4; second = Literal 5; target = ToLine 5 }
+    ∷ move (Register 16) (Literal 0)
+    ∷ two Xor (Register 16) (Register 16) (Register 17)
+    ∷ two Not (Register 16) (Register 16) Empty
+    ∷ move (Register 17) (Register 17)
+    ∷ []
+
+-- it is accepted, so the claims speak of it
+pub small-accepted : Accepted small
+unfolding Accepted AllRight correct markFault
+small-accepted = (lit≤ tt, (tt, refl, (tt, refl, (tt, refl, (tt, refl, (tt, refl, (tt, refl, (tt, refl, (tt, refl, tt)))))))))
+
+-- bits in r16 and r17
+abbrev bits : ℕ → ℕ → State
+bits a b = set (set (replicate 544 0) 16 a) 17 b
+
+abbrev sameRows : List Row → List Row → Bool
+sameRows [] [] = true
+sameRows [] (y ∷ ys) = false
+sameRows (x ∷ xs) [] = false
+sameRows (x ∷ xs) (y ∷ ys) = sameBytes x y && sameRows xs ys
+
+-- the trace is that of the bits 0 and 0, and the state past r3 that the expansion ends with is the image of the source's
+abbrev claimed : ℕ → ℕ → Bool
+claimed a b =
+    let x = run (expand small) 1000 (start small 0) (image (bits a b)) in
+    let y = run (expand small) 1000 (start small 0) (image (bits 0 0)) in
+    let z = run small 1000 0 (bits a b) in
+    sameRows (x .rows) (y .rows) && sameBytes (drop 4 (x .state)) (drop 4 (image (z .state)))
+
+pub small-claimed : T (claimed 0 0 && claimed 0 1 && claimed 1 0 && claimed 1 1)
+unfolding run expand image row next after ones load scale join fetch flip store
+small-claimed = tt

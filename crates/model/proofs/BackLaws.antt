@@ -1,0 +1,106 @@
+-- The way back from an image, whatever its scratch registers hold, is the bit state; and the tests of condition 19 pass exactly at bit
+-- states and at such images. Place by place. Assumes nothing.
+use mathlib.Core.Path.{_≡_, refl, sym, ap, _∙_}
+use mathlib.Core.Bool.{Bool, true, false, cond, _&&_, _||_}
+use mathlib.Core.List.{List, [], _∷_}
+use mathlib.Core.Logic.{_⊎_, inl, inr}
+use Prim.Native.Nat.{ℕ, zero, suc, _+_, _-_, _≤_, _<_}
+use native.Mathlib.Nat.{zero-add, add-zero, suc-add, add-suc, not-suc-le-zero, le-of-suc-le-suc}
+use native.Mathlib.Omega.{arith}
+use borrow.Author.Tests.{eqb-true, leb-true, eq-eqb}
+use lib.Dec.{ltb, leb, eqb}
+use lib.ListN.{length, getD}
+use lib.Seq.{ext-getD}
+use Rattle.model.specs.Places.{State, Kind, Fixed, Public, Sensitive, kind}
+use Rattle.model.specs.Code.{code}
+use Rattle.model.specs.Images.{Bit, BitState, fixed, imageAt, backAt, image, back, bitRight, imageRight, every, ButScratch}
+use Rattle.model.proofs.PlaceLaws.{mapAt-length, mapAt-getD}
+use Rattle.model.proofs.ImageLaws.{bit-sensitive}
+
+-- ---- there and back
+
+back-fixed : (i x : ℕ) → kind i ≡ Fixed → backAt i x ≡ 0
+unfolding backAt
+back-fixed i x e = rw e
+
+back-bit : (x : ℕ) → x ≤ 1 → (i : ℕ) → kind i ≡ Sensitive → backAt i (code x) ≡ x
+unfolding backAt code
+back-bit zero h i e = rw e
+back-bit (suc zero) h i e = rw e
+back-bit (suc (suc x)) h i e = absurd (not-suc-le-zero (le-of-suc-le-suc h))
+
+back-public : (i x : ℕ) → kind i ≡ Public → backAt i x ≡ x
+unfolding backAt
+back-public i x e = rw e
+
+back-at : (i x : ℕ) → Bit i x → (k : Kind) → kind i ≡ k → backAt i (imageAt i x) ≡ x
+unfolding Bit imageAt
+back-at i x b Fixed e = back-fixed i (imageAt i x) e ∙ sym (rw e at b)
+back-at i x b Public e = rw e (back-public i x e)
+back-at i x b Sensitive e = rw e (back-bit x (rw e at b) i e)
+
+-- r1 to r3, or any other place
+scratch : (i : ℕ) → ((1 ≤ i) × (i ≤ 3)) ⊎ ((1 ≤ i) × (i ≤ 3) → ⊥)
+scratch zero = inr (λ h. not-suc-le-zero (h .0))
+scratch (suc zero) = inl (omega arith)
+scratch (suc (suc zero)) = inl (omega arith)
+scratch (suc (suc (suc zero))) = inl (omega arith)
+scratch (suc (suc (suc (suc i)))) = inr (λ h. omega arith)
+
+scratch-fixed : (i : ℕ) → (1 ≤ i) × (i ≤ 3) → kind i ≡ Fixed
+unfolding kind
+scratch-fixed zero h = absurd (not-suc-le-zero (h .0))
+scratch-fixed (suc zero) h = refl
+scratch-fixed (suc (suc zero)) h = refl
+scratch-fixed (suc (suc (suc zero))) h = refl
+scratch-fixed (suc (suc (suc (suc i)))) h = absurd (omega arith)
+
+zero-at : (i x : ℕ) → kind i ≡ Fixed → Bit i x → x ≡ 0
+unfolding Bit
+zero-at i x e h = rw e at h
+
+pub back-image : (s v : State) → BitState s → ButScratch v (image s) → back v ≡ s
+unfolding ButScratch image back
+back-image s v b h =
+    ext-getD 0 (back v) s (mapAt-length backAt 0 v ∙ lv)
+    (λ i g. mapAt-getD backAt 0 v i (len i g) ∙ ap (λ (j : ℕ). backAt j (getD v i 0)) (zero-add i) ∙ at i (len i g) (scratch i))
+  where
+    lv : length v ≡ length s
+    lv = h .0 ∙ mapAt-length imageAt 0 s
+
+    len : (i : ℕ) → i < length (back v) → i < length v
+    len i g = omega (arith, mapAt-length backAt 0 v)
+
+    img : (i : ℕ) → i < length v → getD (image s) i 0 ≡ imageAt i (getD s i 0)
+    img i g = mapAt-getD imageAt 0 s i (omega (arith, lv)) ∙ ap (λ (j : ℕ). imageAt j (getD s i 0)) (zero-add i)
+
+    at : (i : ℕ) → i < length v → ((1 ≤ i) × (i ≤ 3)) ⊎ ((1 ≤ i) × (i ≤ 3) → ⊥) → backAt i (getD v i 0) ≡ getD s i 0
+    at i g (inl q) = back-fixed i (getD v i 0) (scratch-fixed i q) ∙ sym (zero-at i (getD s i 0) (scratch-fixed i q) (b .bits i (omega (arith, lv, b .long))))
+    at i g (inr q) =
+        ap (backAt i) (h .1 i (omega (arith, mapAt-length imageAt 0 s, lv)) q ∙ img i g) ∙ back-at i (getD s i 0) (b .bits i (omega (arith, lv, b .long))) (kind i) refl
+
+-- ---- condition 19 on the way there: what passes is a bit state
+
+both : (x y : Bool) → (x && y) ≡ true → (x ≡ true) × (y ≡ true)
+both true y e = (refl, e)
+both false y e = let z : _≡_ {A = ℕ} 0 1 = cc in absurd (omega arith)
+
+every-at : (f : ℕ → ℕ → Bool) (i : ℕ) (l : List ℕ) → every f i l ≡ true → (n : ℕ) → n < length l → f (i + n) (getD l n 0) ≡ true
+unfolding every
+every-at f i [] e n h = absurd (not-suc-le-zero h)
+every-at f i (x ∷ l) e zero h = rw (add-zero i) (both (f i x) (every f (suc i) l) e .0)
+every-at f i (x ∷ l) e (suc n) h =
+    ap (λ (m : ℕ). f m (getD l n 0)) (add-suc i n ∙ sym (suc-add i n)) ∙ every-at f (suc i) l (both (f i x) (every f (suc i) l) e .1) n (le-of-suc-le-suc h)
+
+right-bit : (i x : ℕ) (k : Kind) → kind i ≡ k → bitRight i x ≡ true → Bit i x
+unfolding bitRight Bit
+right-bit i x Fixed e h = rw e (eqb-true x 0 (rw e at h))
+right-bit i x Public e h = rw e tt
+right-bit i x Sensitive e h = rw e (leb-true x 1 (rw e at h))
+
+pub bits-right : (s : State) → length s ≡ 544 → every bitRight 0 s ≡ true → BitState s
+bits-right s h e =
+    record {
+      long = h;
+      bits = λ i g. right-bit i (getD s i 0) (kind i) refl (ap (λ (j : ℕ). bitRight j (getD s i 0)) (sym (zero-add i)) ∙ every-at bitRight 0 s e i (omega arith));
+    }
