@@ -6,20 +6,20 @@ use mathlib.Core.List.{List, [], _∷_}
 use mathlib.Core.Option.{some}
 use Prim.Native.Nat.{ℕ, zero, suc, _+_, _≤_, _<_}
 use native.Mathlib.Omega.{arith}
-use borrow.Author.Tests.{ltb-true, ltb-false}
 use lib.Dec.{T, ltb, ltb→lt, nltb→le, leb→le, nleb→lt}
 use lib.ListN.{getElem?}
 use Rattle.model.specs.declared.Mark.{Mark}
 use Rattle.model.specs.declared.Mark.the-variants.{Unmarked, Marked}
 use Rattle.model.specs.declared.Opcode.{Opcode}
-use Rattle.model.specs.declared.Opcode.the-variants.{Nop, Jmp, Not, Mov, And, Orr, Xor, Lsl, Lsr, Add, Mul, Beq, Bne}
 use Rattle.model.specs.declared.Operand.{Operand}
 use Rattle.model.specs.declared.Operand.the-variants.{Empty, Literal, Register, Cell, PublicCell, SensitiveCell, TableCell}
 use Rattle.model.specs.declared.Target.{Target}
 use Rattle.model.specs.declared.Line.{Line}
-use Rattle.model.specs.Places.{Kind, Fixed, Public, Sensitive, kind, kindOf, isPublic, isSensitive}
-use Rattle.model.specs.Lines.{fills, operandRight, targetRight, isLiteral, correct}
+use Rattle.model.specs.Places.{Public, Sensitive, kind, kindOf, isPublic, isSensitive}
+use Rattle.model.specs.Lines.{fills, operandRight, isLiteral, correct}
 use Rattle.model.specs.Marks.{isReserved, hasSensitiveBase, isNoBit, hasMacro, breaks10, breaks11, breaks12, breaks13, breaks14, breaks15, breaks16, markFault, AllRight}
+use Rattle.model.proofs.TestLaws.{below, is-true, and-both}
+use Rattle.model.proofs.StoredLaws.{correct-fields}
 use Rattle.model.proofs.PlaceLaws.{public-register, sensitive-register, public-cell, sensitive-cell}
 use Rattle.model.proofs.Operands.{Base, SensitivePlace, SensitiveArgument, PublicOperand}
 
@@ -36,33 +36,24 @@ line-at n (x ∷ p) h (suc k) l e = line-at n p (h .2) k l e
 
 -- ---- tests
 
-pub and-T : (a b : Bool) → T (a && b) → T a × T b
-and-T true b h = (tt, h)
-and-T false b h = absurd h
-
-pub nor-T : (a b : Bool) → T (not (a || b)) → T (not a) × T (not b)
+nor-T : (a b : Bool) → T (not (a || b)) → T (not a) × T (not b)
 nor-T true b h = absurd h
 nor-T false b h = (tt, h)
 
-pub cond-zero : (b : Bool) (c m : ℕ) → 0 < c → cond b c m ≡ 0 → T (not b) × (m ≡ 0)
+-- a test that fails of all three operands
+three : (x y z : Bool) → T (not (x || y || z)) → T (not x) × T (not y) × T (not z)
+three x y z h =
+    let f = nor-T (x || y) z h in
+    let g = nor-T x y (f .0) in
+    (g .0, g .1, f .1)
+
+cond-zero : (b : Bool) (c m : ℕ) → 0 < c → cond b c m ≡ 0 → T (not b) × (m ≡ 0)
 cond-zero true c m h e = absurd (omega arith)
 cond-zero false c m h e = (tt, e)
-
-is-true : (b : Bool) → T b → b ≡ true
-is-true true h = refl
-is-true false h = absurd h
 
 not-not : (b : Bool) → T (not (not b)) → T b
 not-not true h = tt
 not-not false h = h
-
--- a number is below the bound, or at or above it
-below-or : {P : Type 0} (n b : ℕ) → (n < b → P) → (b ≤ n → P) → P
-below-or {P} n b f g = go (ltb n b) refl
-  where
-    go : (t : Bool) → ltb n b ≡ t → P
-    go true e = f (ltb-true n b e)
-    go false e = g (ltb-false n b e)
 
 never-public : (i : ℕ) → kind i ≡ Public → T (not (isPublic (kind i))) → ⊥
 never-public i e h = rw e at h
@@ -72,16 +63,16 @@ never-sensitive i e h = rw e at h
 
 -- registers past r3 that are not public are sensitive, and the other way round; so with cells up to 255, and bases
 not-public-register : (n : ℕ) → 4 ≤ n → T (not (isPublic (kind n))) → 16 ≤ n
-not-public-register n g h = below-or n 16 (λ l. absurd (never-public n (public-register n g l) h)) (λ l. l)
+not-public-register n g h = below n 16 (λ l. absurd (never-public n (public-register n g l) h)) (λ l. l)
 
 not-sensitive-register : (n : ℕ) → n < 32 → T (not (isSensitive (kind n))) → n < 16
-not-sensitive-register n g h = below-or n 16 (λ l. l) (λ l. absurd (never-sensitive n (sensitive-register n l g) h))
+not-sensitive-register n g h = below n 16 (λ l. l) (λ l. absurd (never-sensitive n (sensitive-register n l g) h))
 
 not-public-cell : (n : ℕ) → T (not (isPublic (kind (32 + n)))) → 128 ≤ n
-not-public-cell n h = below-or n 128 (λ l. absurd (never-public (32 + n) (public-cell (32 + n) (omega arith) (omega arith)) h)) (λ l. l)
+not-public-cell n h = below n 128 (λ l. absurd (never-public (32 + n) (public-cell (32 + n) (omega arith) (omega arith)) h)) (λ l. l)
 
 not-sensitive-cell : (n : ℕ) → n < 256 → T (not (isSensitive (kind (32 + n)))) → n < 128
-not-sensitive-cell n g h = below-or n 128 (λ l. l) (λ l. absurd (never-sensitive (32 + n) (sensitive-cell (32 + n) (omega arith) (omega arith)) h))
+not-sensitive-cell n g h = below n 128 (λ l. l) (λ l. absurd (never-sensitive (32 + n) (sensitive-cell (32 + n) (omega arith) (omega arith)) h))
 
 base-of : (r : ℕ) → r < 32 → T (not (ltb r 4)) → T (not (isSensitive (kind r))) → Base r
 base-of r g h s = (nltb→le r 4 h, not-sensitive-register r g s)
@@ -94,33 +85,33 @@ pub record Clean (o : Operand) : Type 0 where
   pub named : T (not (isReserved o))
   pub based : T (not (hasSensitiveBase o))
 
-sensitive-place : (o : Operand) → Clean o → T (not (isLiteral o)) → T (not (isPublic (kindOf o))) → SensitivePlace o
+sensitive-place : (o : Operand) → Clean o → isLiteral o ≡ false → T (not (isPublic (kindOf o))) → SensitivePlace o
 unfolding operandRight isLiteral isReserved hasSensitiveBase kindOf
 sensitive-place Empty c i p = c .range
-sensitive-place (Literal x) c i p = i
+sensitive-place (Literal x) c i p = let z : _≡_ {A = ℕ} 0 1 = cc in absurd (omega arith)
 sensitive-place (Register x) c i p = (not-public-register x (nltb→le x 4 (c .named)) p, ltb→lt x 32 (c .range))
 sensitive-place (Cell x) c i p = (not-public-cell x p, omega (bounds, nltb→le 255 x (c .named)))
 sensitive-place (PublicCell r k) c i p = p
-sensitive-place (SensitiveCell r k) c i p = base-of r (ltb→lt r 32 (and-T (ltb r 32) (ltb k 128) (c .range) .0)) (c .named) (c .based)
+sensitive-place (SensitiveCell r k) c i p = base-of r (ltb→lt r 32 (and-both (ltb r 32) (ltb k 128) (c .range) .0)) (c .named) (c .based)
 sensitive-place (TableCell r k) c i p = c .named
 
 sensitive-argument : (o : Operand) → Clean o → T (not (isPublic (kindOf o))) → T (not (isNoBit o)) → SensitiveArgument o
 unfolding isLiteral isNoBit
-sensitive-argument Empty c p n = sensitive-place Empty c tt p
+sensitive-argument Empty c p n = sensitive-place Empty c refl p
 sensitive-argument (Literal x) c p n = nltb→le 1 x n
-sensitive-argument (Register x) c p n = sensitive-place (Register x) c tt p
-sensitive-argument (Cell x) c p n = sensitive-place (Cell x) c tt p
-sensitive-argument (PublicCell r k) c p n = sensitive-place (PublicCell r k) c tt p
-sensitive-argument (SensitiveCell r k) c p n = sensitive-place (SensitiveCell r k) c tt p
-sensitive-argument (TableCell r k) c p n = sensitive-place (TableCell r k) c tt p
+sensitive-argument (Register x) c p n = sensitive-place (Register x) c refl p
+sensitive-argument (Cell x) c p n = sensitive-place (Cell x) c refl p
+sensitive-argument (PublicCell r k) c p n = sensitive-place (PublicCell r k) c refl p
+sensitive-argument (SensitiveCell r k) c p n = sensitive-place (SensitiveCell r k) c refl p
+sensitive-argument (TableCell r k) c p n = sensitive-place (TableCell r k) c refl p
 
 public-operand : (b : Bool) (o : Operand) → T (operandRight b o) → T (not (isReserved o)) → T (not (hasSensitiveBase o)) → T (not (isSensitive (kindOf o))) → PublicOperand o
 unfolding operandRight isReserved hasSensitiveBase kindOf
 public-operand b Empty f r s p = tt
 public-operand b (Literal x) f r s p = tt
-public-operand b (Register x) f r s p = (nltb→le x 4 r, not-sensitive-register x (ltb→lt x 32 (and-T b (ltb x 32) f .1)) p)
+public-operand b (Register x) f r s p = (nltb→le x 4 r, not-sensitive-register x (ltb→lt x 32 (and-both b (ltb x 32) f .1)) p)
 public-operand b (Cell x) f r s p = not-sensitive-cell x (omega (bounds, nltb→le 255 x r)) p
-public-operand b (PublicCell x k) f r s p = base-of x (ltb→lt x 32 (and-T b (ltb x 32) (and-T (b && ltb x 32) (ltb k 128) f .0) .1)) r s
+public-operand b (PublicCell x k) f r s p = base-of x (ltb→lt x 32 (and-both b (ltb x 32) (and-both (b && ltb x 32) (ltb k 128) f .0) .1)) r s
 public-operand b (SensitiveCell x k) f r s p = p
 public-operand b (TableCell x k) f r s p = r
 
@@ -148,30 +139,6 @@ clear n l e =
     let h16 = cond-zero (breaks16 n l) 16 _ (omega arith) (h15 .1) in
     record { c10 = h10 .0; c11 = h11 .0; c12 = h12 .0; c13 = h13 .0; c14 = h14 .0; c15 = h15 .0; c16 = h16 .0 }
 
--- the parts of a correct line
-pub record Right (op : Opcode) (d a b : Operand) (t : Target) : Type 0 where
-  pub destination : T (operandRight (fills op .destination) d)
-  pub place : T (not (isLiteral d))
-  pub first : T (operandRight (fills op .first) a)
-  pub second : T (operandRight (fills op .second) b)
-  pub target : T (targetRight (fills op .target) t)
-
-pub right : (m : Mark) (op : Opcode) (d a b : Operand) (t : Target) → T (correct (mk m op d a b t)) → Right op d a b t
-unfolding correct
-right m op d a b t h =
-    let f4 = and-T (operandRight (fills op .destination) d && not (isLiteral d) && operandRight (fills op .first) a && operandRight (fills op .second) b) (targetRight (fills op .target) t) h in
-    let f3 = and-T (operandRight (fills op .destination) d && not (isLiteral d) && operandRight (fills op .first) a) (operandRight (fills op .second) b) (f4 .0) in
-    let f2 = and-T (operandRight (fills op .destination) d && not (isLiteral d)) (operandRight (fills op .first) a) (f3 .0) in
-    let f1 = and-T (operandRight (fills op .destination) d) (not (isLiteral d)) (f2 .0) in
-    record { destination = f1 .0; place = f1 .1; first = f2 .1; second = f3 .1; target = f4 .1 }
-
--- a test that fails of all three operands
-three : (x y z : Bool) → T (not (x || y || z)) → T (not x) × T (not y) × T (not z)
-three x y z h =
-    let f = nor-T (x || y) z h in
-    let g = nor-T x y (f .0) in
-    (g .0, g .1, f .1)
-
 pub record Plain (d a b : Operand) : Type 0 where
   pub destination : PublicOperand d
   pub first : PublicOperand a
@@ -181,7 +148,7 @@ pub plain : (n : ℕ) (op : Opcode) (d a b : Operand) (t : Target) → T (correc
 unfolding breaks10 breaks11 breaks12
 plain n op d a b t h e =
     let c = clear n (mk Unmarked op d a b t) e in
-    let f = right Unmarked op d a b t h in
+    let f = correct-fields (mk Unmarked op d a b t) h in
     let r = three (isReserved d) (isReserved a) (isReserved b) (c .c10) in
     let s = nor-T (isSensitive (kindOf a) || isSensitive (kindOf b)) (hasSensitiveBase d || hasSensitiveBase a || hasSensitiveBase b) (c .c12) in
     let i = nor-T (isSensitive (kindOf a)) (isSensitive (kindOf b)) (s .0) in
@@ -209,7 +176,7 @@ pub masked : (n : ℕ) (op : Opcode) (d a b : Operand) (t : Target) → T (corre
 unfolding breaks10 breaks11 breaks12 breaks13 breaks14 breaks15
 masked n op d a b t h e =
     let c = clear n (mk Marked op d a b t) e in
-    let f = right Marked op d a b t h in
+    let f = correct-fields (mk Marked op d a b t) h in
     let r = three (isReserved d) (isReserved a) (isReserved b) (c .c10) in
     let g = three (hasSensitiveBase d) (hasSensitiveBase a) (hasSensitiveBase b) (c .c12) in
     let p = nor-T (isPublic (kindOf a)) (isPublic (kindOf b)) (c .c13) in

@@ -1,21 +1,20 @@
--- The way back from an image, whatever its scratch registers hold, is the bit state; and the tests of condition 19 pass exactly at bit
--- states and at such images. Place by place. Assumes nothing.
-use mathlib.Core.Path.{_≡_, refl, sym, ap, _∙_}
-use mathlib.Core.Bool.{Bool, true, false, cond, _&&_, _||_}
+-- The way back from an image, whatever its scratch registers hold, is the bit state; and what passes condition 19 on the way there is a
+-- bit state. Place by place. Assumes nothing.
+use mathlib.Core.Path.{_≡_, refl, sym, ap, _∙_, subst}
+use mathlib.Core.Bool.{Bool, true}
 use mathlib.Core.List.{List, [], _∷_}
 use mathlib.Core.Logic.{_⊎_, inl, inr}
-use Prim.Native.Nat.{ℕ, zero, suc, _+_, _-_, _≤_, _<_}
+use Prim.Native.Nat.{ℕ, zero, suc, _+_, _≤_, _<_}
 use native.Mathlib.Nat.{zero-add, add-zero, suc-add, add-suc, not-suc-le-zero, le-of-suc-le-suc}
 use native.Mathlib.Omega.{arith}
-use borrow.Author.Tests.{eqb-true, leb-true, eq-eqb}
-use lib.Dec.{ltb, leb, eqb}
+use lib.Dec.{T, eqb→eq, leb→le}
 use lib.ListN.{length, getD}
 use lib.Seq.{ext-getD}
 use Rattle.model.specs.Places.{State, Kind, Fixed, Public, Sensitive, kind}
 use Rattle.model.specs.Code.{code}
-use Rattle.model.specs.Images.{Bit, BitState, fixed, imageAt, backAt, image, back, bitRight, imageRight, every, ButScratch}
+use Rattle.model.specs.Images.{Bit, BitState, imageAt, backAt, image, back, bitRight, every, ButScratch}
+use Rattle.model.proofs.TestLaws.{holds, and-both}
 use Rattle.model.proofs.PlaceLaws.{mapAt-length, mapAt-getD}
-use Rattle.model.proofs.ImageLaws.{bit-sensitive}
 
 -- ---- there and back
 
@@ -81,26 +80,22 @@ back-image s v b h =
 
 -- ---- condition 19 on the way there: what passes is a bit state
 
-both : (x y : Bool) → (x && y) ≡ true → (x ≡ true) × (y ≡ true)
-both true y e = (refl, e)
-both false y e = let z : _≡_ {A = ℕ} 0 1 = cc in absurd (omega arith)
-
-every-at : (f : ℕ → ℕ → Bool) (i : ℕ) (l : List ℕ) → every f i l ≡ true → (n : ℕ) → n < length l → f (i + n) (getD l n 0) ≡ true
+every-at : (f : ℕ → ℕ → Bool) (i : ℕ) (l : List ℕ) → T (every f i l) → (n : ℕ) → n < length l → T (f (i + n) (getD l n 0))
 unfolding every
 every-at f i [] e n h = absurd (not-suc-le-zero h)
-every-at f i (x ∷ l) e zero h = rw (add-zero i) (both (f i x) (every f (suc i) l) e .0)
+every-at f i (x ∷ l) e zero h = rw (add-zero i) (and-both (f i x) (every f (suc i) l) e .0)
 every-at f i (x ∷ l) e (suc n) h =
-    ap (λ (m : ℕ). f m (getD l n 0)) (add-suc i n ∙ sym (suc-add i n)) ∙ every-at f (suc i) l (both (f i x) (every f (suc i) l) e .1) n (le-of-suc-le-suc h)
+    subst (λ (m : ℕ). T (f m (getD l n 0))) (suc-add i n ∙ sym (add-suc i n)) (every-at f (suc i) l (and-both (f i x) (every f (suc i) l) e .1) n (le-of-suc-le-suc h))
 
-right-bit : (i x : ℕ) (k : Kind) → kind i ≡ k → bitRight i x ≡ true → Bit i x
+right-bit : (i x : ℕ) (k : Kind) → kind i ≡ k → T (bitRight i x) → Bit i x
 unfolding bitRight Bit
-right-bit i x Fixed e h = rw e (eqb-true x 0 (rw e at h))
+right-bit i x Fixed e h = rw e (eqb→eq x 0 (rw e at h))
 right-bit i x Public e h = rw e tt
-right-bit i x Sensitive e h = rw e (leb-true x 1 (rw e at h))
+right-bit i x Sensitive e h = rw e (leb→le x 1 (rw e at h))
 
 pub bits-right : (s : State) → length s ≡ 544 → every bitRight 0 s ≡ true → BitState s
 bits-right s h e =
     record {
       long = h;
-      bits = λ i g. right-bit i (getD s i 0) (kind i) refl (ap (λ (j : ℕ). bitRight j (getD s i 0)) (sym (zero-add i)) ∙ every-at bitRight 0 s e i (omega arith));
+      bits = λ i g. right-bit i (getD s i 0) (kind i) refl (subst (λ (j : ℕ). T (bitRight j (getD s i 0))) (zero-add i) (every-at bitRight 0 s (holds e) i (omega arith)));
     }

@@ -9,7 +9,7 @@ use native.Mathlib.Nat.{add-comm}
 use native.Mathlib.Omega.{arith}
 use lib.Count.{ones}
 use lib.Dec.{T}
-use lib.ListN.{length, getD, set, getElem?, length-set}
+use lib.ListN.{length, getD, getElem?, length-set}
 use Rattle.model.specs.declared.Mark.{Mark}
 use Rattle.model.specs.declared.Mark.the-variants.{Unmarked, Marked}
 use Rattle.model.specs.declared.Opcode.{Opcode}
@@ -24,7 +24,7 @@ use Rattle.model.specs.Lines.{correct}
 use Rattle.model.specs.Images.{Bit, BitState, SamePublic, ButScratch, image}
 use Rattle.model.specs.Expansion.{partOf, size, start, expand}
 use Rattle.model.specs.Marks.{markFault, AllRight, Accepted}
-use Rattle.model.specs.Claims.{span, SameRuns, EqualTraces, Follows, Correspondence}
+use Rattle.model.specs.Claims.{span, SameRuns, EqualTraces, Correspondence}
 use Rattle.model.proofs.Runs.{stopped, step-run, run-zero, Seen, cut, seen-past}
 use Rattle.model.proofs.Parts.{start-end}
 use Rattle.model.proofs.PlaceLaws.{same-sym, same-sensitive}

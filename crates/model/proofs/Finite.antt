@@ -1,9 +1,9 @@
 -- The finite part: all numbers that a macro shows or leaves and that a bit could change, computed for every table and all bits by one
 -- test, and what it says of each. Assumes nothing.
-use mathlib.Core.Path.{_≡_, refl, ap}
+use mathlib.Core.Path.{_≡_, refl}
 use mathlib.Core.Bool.{Bool, true, false, cond, _&&_}
 use mathlib.Core.List.{List, [], _∷_}
-use Prim.Native.Nat.{ℕ, zero, suc, _+_, _*_, _%_, _≤_, _<_}
+use Prim.Native.Nat.{ℕ, zero, suc, _+_, _*_, _%_, _<_}
 use native.Mathlib.Nat.{not-suc-le-zero}
 use native.Mathlib.Decide.{ℕ-discrete}
 use native.Mathlib.Omega.{arith}
@@ -17,6 +17,7 @@ use Rattle.model.specs.declared.Opcode.{Opcode}
 use Rattle.model.specs.declared.Opcode.the-variants.{Not, And, Orr, Xor}
 use Rattle.model.specs.Step.{weight, distance, alu}
 use Rattle.model.specs.Code.{code, mask, page, andTable, orrTable, xorTable}
+use Rattle.model.proofs.TestLaws.{and-both}
 
 -- ---- the three tables, by number
 
@@ -100,15 +101,15 @@ abbrev pub agree : List Pair → Bool
 agree [] = true
 agree (p ∷ ps) = eqb (p .left) (p .right) && agree ps
 
-abbrev below : ℕ → (ℕ → Bool) → Bool
-below zero f = true
-below (suc n) f = f n && below n f
+abbrev all : ℕ → (ℕ → Bool) → Bool
+all zero f = true
+all (suc n) f = f n && all n f
 
 abbrev test : ℕ → ℕ → ℕ → Bool
 test o a b = agree (pairs o a b)
 
 abbrev testAll : Bool
-testAll = below 3 (λ o. below 2 (λ a. below 2 (λ b. test o a b)))
+testAll = all 3 (λ o. all 2 (λ a. all 2 (λ b. test o a b)))
 
 passed : T testAll
 unfolding pairs code alu page ones distance
@@ -116,31 +117,23 @@ passed = tt
 
 -- ---- from the test to each fact
 
-and-left : (a b : Bool) → T (a && b) → T a
-and-left true b h = tt
-and-left false b h = absurd h
-
-and-right : (a b : Bool) → T (a && b) → T b
-and-right true b h = h
-and-right false b h = absurd h
-
-below-at : (n : ℕ) (f : ℕ → Bool) → T (below n f) → (i : ℕ) → i < n → T (f i)
-below-at zero f h i g = absurd (not-suc-le-zero g)
-below-at (suc n) f h i g = go (λ l. below-at n f (and-right (f n) (below n f) h) i l) (ℕ-discrete i n)
+all-at : (n : ℕ) (f : ℕ → Bool) → T (all n f) → (i : ℕ) → i < n → T (f i)
+all-at zero f h i g = absurd (not-suc-le-zero g)
+all-at (suc n) f h i g = go (λ l. all-at n f (and-both (f n) (all n f) h .1) i l) (ℕ-discrete i n)
   where
     go : (i < n → T (f i)) → Dec (i ≡ n) → T (f i)
-    go ih (yes e) = rw e (and-left (f n) (below n f) h)
+    go ih (yes e) = rw e (and-both (f n) (all n f) h .0)
     go ih (no e) = ih (omega arith)
 
 agree-at : (ps : List Pair) → T (agree ps) → (i : ℕ) → getD ps i (pair 0 0) .left ≡ getD ps i (pair 0 0) .right
 agree-at [] h i = refl
-agree-at (p ∷ ps) h zero = eqb→eq (p .left) (p .right) (and-left (eqb (p .left) (p .right)) (agree ps) h)
-agree-at (p ∷ ps) h (suc i) = agree-at ps (and-right (eqb (p .left) (p .right)) (agree ps) h) i
+agree-at (p ∷ ps) h zero = eqb→eq (p .left) (p .right) (and-both (eqb (p .left) (p .right)) (agree ps) h .0)
+agree-at (p ∷ ps) h (suc i) = agree-at ps (and-both (eqb (p .left) (p .right)) (agree ps) h .1) i
 
 fact : (o a b : ℕ) → o < 3 → a < 2 → b < 2 → (i : ℕ) → getD (pairs o a b) i (pair 0 0) .left ≡ getD (pairs o a b) i (pair 0 0) .right
 fact o a b ho ha hb i =
     agree-at (pairs o a b)
-    (below-at 2 (λ b. test o a b) (below-at 2 (λ a. below 2 (λ b. test o a b)) (below-at 3 (λ o. below 2 (λ a. below 2 (λ b. test o a b))) passed o ho) a ha) b hb) i
+    (all-at 2 (λ b. test o a b) (all-at 2 (λ a. all 2 (λ b. test o a b)) (all-at 3 (λ o. all 2 (λ a. all 2 (λ b. test o a b))) passed o ho) a ha) b hb) i
 
 under-lt : (m n : ℕ) → _≡_ {A = ℕ} (under m n) 1 → m < n
 under-lt m n e = go (ltb m n) refl e

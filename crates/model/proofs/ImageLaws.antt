@@ -1,14 +1,13 @@
 -- A bit state and its image by their places past r3: what a place holds in both, and what a sensitive operand names.
 -- Assumes nothing.
 use mathlib.Core.Path.{_≡_, refl, sym, ap, _∙_}
-use mathlib.Core.List.{List, [], _∷_}
+use mathlib.Core.List.{List}
 use Prim.Native.Nat.{ℕ, zero, suc, _+_, _-_, _≤_, _<_}
-use native.Mathlib.Nat.{not-suc-le-zero, le-of-suc-le-suc}
 use native.Mathlib.Omega.{arith}
 use borrow.Author.Tests.{le-ltb}
 use lib.ListN.{length, getD, set}
 use Rattle.model.specs.declared.Operand.{Operand}
-use Rattle.model.specs.Places.{State, Kind, Fixed, Public, Sensitive, kind, place, address}
+use Rattle.model.specs.Places.{State, Public, Sensitive, kind, place, address}
 use Rattle.model.specs.Code.{code, page}
 use Rattle.model.specs.Images.{Bit, BitState, mapAt, imageAt, SamePublic}
 use Rattle.model.proofs.PlaceLaws.{mapAt-length, mapAt-getD, mapAt-set, same-sensitive, table-cell}

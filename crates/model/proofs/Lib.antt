@@ -1,3 +1,10 @@
+pub mod TestLaws
+pub mod StoredLaws
+pub mod DecimalLaws
+pub mod SpellingLaws
+pub mod CutLaws
+pub mod ReadingLaws
+pub mod RoundTrip
 pub mod Runs
 pub mod Straight
 pub mod Parts

@@ -2,25 +2,25 @@
 -- looks inside a load. Assumes nothing.
 use mathlib.Core.Path.{_≡_, refl, sym, ap, _∙_}
 use mathlib.Core.List.{List, [], _∷_}
-use Prim.Native.Nat.{ℕ, suc, _+_, _≤_, _<_}
+use Prim.Native.Nat.{ℕ, suc, _≤_, _<_}
 use native.Mathlib.Omega.{arith}
 use lib.Count.{ones}
 use lib.ListN.{length, getD}
 use Rattle.model.specs.declared.Mark.the-variants.{Marked}
 use Rattle.model.specs.declared.Operand.{Operand}
 use Rattle.model.specs.declared.Operand.the-variants.{Empty, Literal, Register, Cell, PublicCell, SensitiveCell, TableCell}
-use Rattle.model.specs.Places.{State, place, address, value}
+use Rattle.model.specs.Places.{State, address, value}
 use Rattle.model.specs.Step.{Row, argument, next, taken, weight}
 use Rattle.model.specs.Code.{code}
 use Rattle.model.specs.Images.{BitState, SamePublic}
 use Rattle.model.specs.Expansion.{coded, load}
 use Rattle.model.proofs.Runs.{ran}
 use Rattle.model.proofs.Straight.{exec, Straight}
-use Rattle.model.proofs.Operands.{SensitivePlace, steady-place, steady-argument, place-same, address-same, value-at}
+use Rattle.model.proofs.Operands.{SensitivePlace, steady-argument, address-same, value-at}
 use Rattle.model.proofs.Acceptance.{MaskedArgument}
 use Rattle.model.proofs.Finite.{code-weight, code-loaded}
-use Rattle.model.proofs.Pieces.{held, plus4, six, Scratch, got, kept, Source, load-exec, distance-zero}
-use Rattle.model.proofs.ImageLaws.{zeros, rails, Found, found, same-held}
+use Rattle.model.proofs.Pieces.{held, six, Scratch, got, kept, Source, load-exec, distance-zero}
+use Rattle.model.proofs.ImageLaws.{zeros, rails, found}
 
 abbrev pub loadEnd : Operand → ℕ → ℕ
 loadEnd a k = suc (suc k)

@@ -1,8 +1,8 @@
 -- A marked line: its macro from an image leaves the image of what the line leaves, and its rows turn on public numbers alone: the line
 -- number, the Hamming weights of the addresses, and those of the scratch registers. The pieces are joined. Assumes nothing.
-use mathlib.Core.Path.{_≡_, refl, sym, ap, ap₂, _∙_}
-use mathlib.Core.List.{List, [], _∷_, _++_}
-use Prim.Native.Nat.{ℕ, zero, suc, _+_, _%_, _≤_, _<_}
+use mathlib.Core.Path.{_≡_, refl, ap, ap₂, _∙_}
+use mathlib.Core.List.{List, [], _++_}
+use Prim.Native.Nat.{ℕ, suc, _+_, _%_, _≤_, _<_}
 use native.Mathlib.Omega.{arith}
 use lib.Dec.{T, lit<}
 use lib.ListN.{length, getD, set, length-append}
@@ -28,7 +28,7 @@ use Rattle.model.proofs.Acceptance.{mk, Masked, MaskedArgument}
 use Rattle.model.proofs.Finite.{tableAt, tableOp, tableWeight, low, scaled, joinedIndex, flipped, slot, code-weight, low-weight, flipped-weight, flipped-code, not-bit, index-weight, slot-low, slot-holds, table-bit}
 use Rattle.model.proofs.Pieces.{held, plus4, r1, r2, r3, scaleEnd, scaleShown, scale-shown, joinEnd, joinShown, join-shown, flipEnd, flipShown, flip-shown, fetchEnd, fetchShown, fetch-shown, storeShown, store-shown}
 use Rattle.model.proofs.ImageLaws.{zeros, rails, tail-length, Found, found, image-page, sensitive-bit, write-sensitive}
-use Rattle.model.proofs.Loads.{loadEnd, loadShown, Loaded, loaded, load-same, load-size, load-straight}
+use Rattle.model.proofs.Loads.{loadEnd, loadShown, loaded, load-same, load-size, load-straight}
 
 -- the Hamming weights of r1, r2 and r3
 pub record Weights : Type 0 where

@@ -1,7 +1,7 @@
 -- Where the parts stand in an expansion: part k begins at start k, and past the source's end the start is the expansion's end.
 -- By induction over the program. Assumes nothing.
 use mathlib.Core.Path.{_≡_, refl, sym, ap, ap₂, _∙_}
-use mathlib.Core.List.{List, [], _∷_, _++_, flatMap}
+use mathlib.Core.List.{List, [], _∷_, _++_}
 use mathlib.Core.Option.{none, some}
 use Prim.Native.Nat.{ℕ, zero, suc, _+_, _≤_}
 use native.Mathlib.Nat.{zero-add, suc-add, add-assoc, le-of-suc-le-suc, not-suc-le-zero}

@@ -1,9 +1,9 @@
 -- The pieces of the macros, done line after line on a state whose first four places are written out, and their rows by public numbers
 -- alone. Each is computed; what a bit could change is the finite part's. Assumes nothing.
 use mathlib.Core.Path.{_≡_, refl, ap, _∙_}
-use mathlib.Core.List.{List, [], _∷_, _++_}
-use Prim.Native.Nat.{ℕ, zero, suc, _+_, _%_, _<_}
-use lib.Bits.{xor-zero-r, bitXor, bitAnd, bitOr}
+use mathlib.Core.List.{List, [], _∷_}
+use Prim.Native.Nat.{ℕ, suc, _+_, _%_, _<_}
+use lib.Bits.{xor-zero-r, bitOr}
 use lib.Count.{ones}
 use lib.ListN.{length, getD, set}
 use lib.Seq.{getD-set-same, set-set}
@@ -14,7 +14,7 @@ use Rattle.model.specs.Code.{code}
 use Rattle.model.specs.Expansion.{load, scale, join, fetch, flip, store}
 use Rattle.model.proofs.Runs.{ran}
 use Rattle.model.proofs.Straight.{exec}
-use Rattle.model.proofs.Finite.{low, twice, scaled, joinedIndex, flipped, slot, tableAt, tableOp, tableWeight, code-weight, code-loaded, code-cleared, low-weight, low-distance, twice-weight, twice-distance, scaled-weight, scaled-distance, flipped-weight, flipped-distance, index-weight, index-distance, slot-weight}
+use Rattle.model.proofs.Finite.{low, twice, scaled, joinedIndex, flipped, slot, tableAt, tableWeight, code-weight, code-loaded, code-cleared, low-weight, low-distance, twice-weight, twice-distance, scaled-weight, scaled-distance, flipped-weight, flipped-distance, index-weight, index-distance, slot-weight}
 
 -- a state by its first four places, of which r0 is 0
 abbrev pub held : ℕ → ℕ → ℕ → List ℕ → State

@@ -3,7 +3,7 @@
 use mathlib.Core.Path.{_≡_, refl, sym, ap, ap₂, _∙_}
 use mathlib.Core.List.{List, [], _∷_, _++_}
 use mathlib.Core.Option.{Option, none, some}
-use Prim.Native.Nat.{ℕ, zero, suc, _+_, _≤_, _<_}
+use Prim.Native.Nat.{ℕ, zero, suc, _+_, _<_}
 use native.Mathlib.Nat.{zero-add, suc-add, le-of-suc-le-suc, not-suc-le-zero}
 use native.Mathlib.Omega.{arith}
 use lib.ListN.{length, getD, take, drop, getElem?}
@@ -102,18 +102,6 @@ seen-past p n m k s t h e =
       ap (λ (x : Ran). x .rows) (run-past p n m k s e) ∙ ap (λ (r : List Row). r ++ []) (h .0) ∙ sym (ap (λ (x : Ran). x .rows) (run-past p n m k t e′)),
       ap (λ (x : Ran). x .at) (run-past p n m k s e) ∙ h .1 ∙ sym (ap (λ (x : Ran). x .at) (run-past p n m k t e′)),
     )
-
--- ---- a line is fetched exactly where the counter is below the line count
-
-pub fetch-lt : (p : List Line) (k : ℕ) (d : Line) → k < length p → getElem? p k ≡ some (getD p k d)
-fetch-lt [] k d h = absurd (not-suc-le-zero h)
-fetch-lt (l ∷ p) zero d h = refl
-fetch-lt (l ∷ p) (suc k) d h = fetch-lt p k d (le-of-suc-le-suc h)
-
-pub fetch-ge : (p : List Line) (k : ℕ) → length p ≤ k → getElem? p k ≡ none
-fetch-ge [] k h = refl
-fetch-ge (l ∷ p) zero h = absurd (not-suc-le-zero h)
-fetch-ge (l ∷ p) (suc k) h = fetch-ge p k (le-of-suc-le-suc h)
 
 fetch-none : (p : List Line) (k : ℕ) → getElem? p k ≡ none → k < length p → ⊥
 fetch-none [] k e h = not-suc-le-zero h

@@ -20,11 +20,11 @@ use Rattle.model.specs.Step.{Row, row, result, next, after, taken, goal,
 use Rattle.model.specs.Run.{Ran, push, run}
 use Rattle.model.specs.Lines.{correct}
 use Rattle.model.specs.Images.{BitState}
-use Rattle.model.specs.Expansion.{macro, coded, moved, partOf, size, start, joined, expand}
+use Rattle.model.specs.Expansion.{macro, coded, moved, partOf, size, start, expand}
 use Rattle.model.specs.Marks.{markFault, AllRight}
 use Rattle.model.specs.Claims.{span}
 use Rattle.model.proofs.Runs.{ran, stopped, step-run, run-zero, run-add, joinRuns}
-use Rattle.model.proofs.Straight.{exec, exec-at, exec-rows, drop-head, run-straight}
+use Rattle.model.proofs.Straight.{exec-at, exec-rows, drop-head, run-straight}
 use Rattle.model.proofs.Parts.{part-at, start-suc}
 use Rattle.model.proofs.Acceptance.{mk, line-at, Plain, plain, Masked, masked}
 use Rattle.model.proofs.Pieces.{held}

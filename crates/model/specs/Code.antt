@@ -1,6 +1,6 @@
 -- 'Code, tables, macros', the code and the tables: every sensitive bit is stored as 01 or 10.
 -- Assumes nothing.
-use mathlib.Core.Bool.{Bool, true, false, cond}
+use mathlib.Core.Bool.{cond}
 use Prim.Native.Nat.{ℕ, zero, suc, _+_, _-_, _*_}
 use lib.Dec.{eqb, ltb}
 use Rattle.model.specs.declared.Mark.the-variants.{Marked}

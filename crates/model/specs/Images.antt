@@ -1,13 +1,13 @@
 -- 'Code, tables, macros', the states: bit states, images, the way back, and conditions 18 and 19.
 -- Assumes nothing.
 use mathlib.Core.Path.{_≡_}
-use mathlib.Core.Bool.{Bool, true, false, cond, _&&_, _||_}
+use mathlib.Core.Bool.{Bool, true, cond, _&&_, _||_}
 use mathlib.Core.List.{List, [], _∷_}
-use Prim.Native.Nat.{ℕ, zero, suc, _+_, _-_, _≤_, _<_}
+use Prim.Native.Nat.{ℕ, suc, _-_, _≤_, _<_}
 use lib.Dec.{ltb, leb, eqb}
 use lib.ListN.{getD, length}
 use Rattle.model.specs.Limits.{stateSize}
-use Rattle.model.specs.Answers.{Report, counted, refused, Outcome, outcome}
+use Rattle.model.specs.Answers.{counted, refused, Outcome, outcome}
 use Rattle.model.specs.Places.{State, Kind, Fixed, Public, Sensitive, kind}
 use Rattle.model.specs.Code.{code, page}
 

@@ -3,7 +3,7 @@
 use mathlib.Core.Path.{_≡_}
 use mathlib.Core.Bool.{Bool, true, false, not, cond, _&&_, _||_}
 use mathlib.Core.List.{List, [], _∷_, flatMap}
-use Prim.Native.Nat.{ℕ, zero, suc, _+_, _≤_, _/_}
+use Prim.Native.Nat.{ℕ, _+_, _≤_}
 use lib.Dec.{ltb, eqb, T}
 use lib.ListN.{length}
 use Rattle.model.specs.declared.Mark.{Mark}
@@ -15,9 +15,9 @@ use Rattle.model.specs.declared.Operand.the-variants.{Empty, Literal, Re
 use Rattle.model.specs.declared.Target.{Target}
 use Rattle.model.specs.declared.Target.the-variants.{Empty as NoTarget, Line as ToLine}
 use Rattle.model.specs.declared.Line.{Line}
-use Rattle.model.specs.Limits.{lineWidth, maxAccepted}
+use Rattle.model.specs.Limits.{maxAccepted}
 use Rattle.model.specs.Answers.{Report, counted, refused, Outcome, outcome, orElse, unlessRefused, atFront}
-use Rattle.model.specs.Places.{Kind, kind, kindOf, isPublic, isSensitive}
+use Rattle.model.specs.Places.{kind, kindOf, isPublic, isSensitive}
 use Rattle.model.specs.Lines.{correct}
 use Rattle.model.specs.Stored.{codes, lineCount, lines, programCheck}
 use Rattle.model.specs.Expansion.{expand}

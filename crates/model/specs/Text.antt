@@ -3,7 +3,7 @@
 use mathlib.Core.Bool.{Bool, true, false, cond, _&&_}
 use mathlib.Core.List.{List, [], _∷_, _++_, flatMap}
 use mathlib.Core.Option.{Option, none, some}
-use Prim.Native.Nat.{ℕ, zero, suc, _+_, _-_, _*_, _/_, _%_}
+use Prim.Native.Nat.{ℕ, zero, suc, _+_, _/_, _%_}
 use lib.Dec.{ltb, leb, eqb}
 use lib.ListN.{length}
 use Rattle.model.specs.declared.Mark.{Mark}
@@ -17,7 +17,7 @@ use Rattle.model.specs.declared.Target.the-variants.{Empty as NoTarget, 
 use Rattle.model.specs.declared.Line.{Line}
 use Rattle.model.specs.Limits.{lineWidth, maxLines, lineReach}
 use Rattle.model.specs.Answers.{Report, counted, refused, Outcome, outcome, unlessRefused, atFront}
-use Rattle.model.specs.Stored.{markOf, opcodeOf, operandOf, targetOf, marks, opcodes, operands, targets, Field, Parsed, numbers, wrong, parsed, lineCount, lines, programCheck}
+use Rattle.model.specs.Stored.{markOf, opcodeOf, operandOf, targetOf, marks, opcodes, operands, targets, Field, Parsed, numbers, wrong, parsed, lines, programCheck}
 
 -- ---- spelling, in bytes
 
