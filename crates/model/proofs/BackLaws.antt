@@ -1,19 +1,20 @@
--- The way back from an image, whatever its scratch registers hold, is the bit state; and what passes condition 19 on the way there is a
--- bit state. Place by place. Assumes nothing.
+-- The way back from an image, whatever its scratch registers hold, passes condition 19 and is the bit state; and what passes it on the
+-- way there is a bit state. Place by place. Assumes nothing.
 use mathlib.Core.Path.{_≡_, refl, sym, ap, _∙_, subst}
-use mathlib.Core.Bool.{Bool, true}
+use mathlib.Core.Bool.{Bool, true, cond, _||_}
 use mathlib.Core.List.{List, [], _∷_}
 use mathlib.Core.Logic.{_⊎_, inl, inr}
-use Prim.Native.Nat.{ℕ, zero, suc, _+_, _≤_, _<_}
+use Prim.Native.Nat.{ℕ, zero, suc, _+_, _-_, _≤_, _<_}
 use native.Mathlib.Nat.{zero-add, add-zero, suc-add, add-suc, not-suc-le-zero, le-of-suc-le-suc}
 use native.Mathlib.Omega.{arith}
-use lib.Dec.{T, eqb→eq, leb→le}
+use borrow.Author.Tests.{le-ltb}
+use lib.Dec.{T, ltb, eqb, eqb→eq, eqb-refl, leb→le}
 use lib.ListN.{length, getD}
 use lib.Seq.{ext-getD}
 use Rattle.model.specs.Places.{State, Kind, Fixed, Public, Sensitive, kind}
-use Rattle.model.specs.Code.{code}
-use Rattle.model.specs.Images.{Bit, BitState, imageAt, backAt, image, back, bitRight, every, ButScratch}
-use Rattle.model.proofs.TestLaws.{holds, and-both}
+use Rattle.model.specs.Code.{code, page}
+use Rattle.model.specs.Images.{Bit, BitState, fixed, imageAt, backAt, image, back, bitRight, imageRight, every, ButScratch}
+use Rattle.model.proofs.TestLaws.{holds, and-both, both-and}
 use Rattle.model.proofs.PlaceLaws.{mapAt-length, mapAt-getD}
 
 -- ---- there and back
@@ -99,3 +100,54 @@ bits-right s h e =
       long = h;
       bits = λ i g. right-bit i (getD s i 0) (kind i) refl (subst (λ (j : ℕ). T (bitRight j (getD s i 0))) (zero-add i) (every-at bitRight 0 s (holds e) i (omega arith)));
     }
+
+-- ---- condition 19 on the way back: an image passes, whatever its scratch registers hold
+
+every-passes : (f : ℕ → ℕ → Bool) (i : ℕ) (l : List ℕ) → ((n : ℕ) → n < length l → T (f (i + n) (getD l n 0))) → T (every f i l)
+unfolding every
+every-passes f i [] h = tt
+every-passes f i (x ∷ l) h =
+    both-and (f i x) (every f (suc i) l) (subst (λ (m : ℕ). T (f m x)) (add-zero i) (h 0 (omega arith)))
+    (every-passes f (suc i) l (λ n g. subst (λ (m : ℕ). T (f m (getD l n 0))) (add-suc i n ∙ sym (suc-add i n)) (h (suc n) (omega arith))))
+
+code-right : (x : ℕ) → x ≤ 1 → T (eqb (code x) (code 1) || eqb (code x) (code 0))
+unfolding code
+code-right zero h = tt
+code-right (suc zero) h = tt
+code-right (suc (suc x)) h = absurd (omega arith)
+
+fixed-right : (i : ℕ) → T (cond (ltb i 4) (cond (eqb i 0) (eqb (fixed i) 0) true) (eqb (fixed i) (fixed i)))
+unfolding fixed
+fixed-right zero = tt
+fixed-right (suc zero) = tt
+fixed-right (suc (suc zero)) = tt
+fixed-right (suc (suc (suc zero))) = tt
+fixed-right (suc (suc (suc (suc i)))) = rw (le-ltb (suc (suc (suc (suc i)))) 4 (omega arith)) (eqb-refl (page (suc (suc (suc (suc i))) - 288)))
+
+image-right-at : (i x : ℕ) → Bit i x → (k : Kind) → kind i ≡ k → T (imageRight i (imageAt i x))
+unfolding Bit imageAt imageRight
+image-right-at i x b Fixed e = rw e (fixed-right i)
+image-right-at i x b Public e = rw e tt
+image-right-at i x b Sensitive e = rw e (code-right x (rw e at b))
+
+scratch-right : (i x : ℕ) → (1 ≤ i) × (i ≤ 3) → T (imageRight i x)
+unfolding imageRight kind
+scratch-right zero x h = absurd (not-suc-le-zero (h .0))
+scratch-right (suc zero) x h = tt
+scratch-right (suc (suc zero)) x h = tt
+scratch-right (suc (suc (suc zero))) x h = tt
+scratch-right (suc (suc (suc (suc i)))) x h = absurd (omega arith)
+
+pub image-passes : (s v : State) → BitState s → ButScratch v (image s) → T (every imageRight 0 v)
+unfolding ButScratch image
+image-passes s v b h = every-passes imageRight 0 v (λ i g. subst (λ (m : ℕ). T (imageRight m (getD v i 0))) (sym (zero-add i)) (at i g (scratch i)))
+  where
+    lv : length v ≡ length s
+    lv = h .0 ∙ mapAt-length imageAt 0 s
+
+    at : (i : ℕ) → i < length v → ((1 ≤ i) × (i ≤ 3)) ⊎ ((1 ≤ i) × (i ≤ 3) → ⊥) → T (imageRight i (getD v i 0))
+    at i g (inl q) = scratch-right i (getD v i 0) q
+    at i g (inr q) =
+        let e : getD v i 0 ≡ imageAt i (getD s i 0) =
+        h .1 i (omega (arith, mapAt-length imageAt 0 s, lv)) q ∙ mapAt-getD imageAt 0 s i (omega (arith, lv)) ∙ ap (λ (j : ℕ). imageAt j (getD s i 0)) (zero-add i) in
+        subst (λ (x : ℕ). T (imageRight i x)) (sym e) (image-right-at i (getD s i 0) (b .bits i (omega (arith, lv, b .long))) (kind i) refl)

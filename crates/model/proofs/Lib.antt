@@ -20,5 +20,6 @@ pub mod UnmarkedLines
 pub mod Simulation
 pub mod DemandThree
 pub mod BackLaws
+pub mod OutcomeLaws
 pub mod Edges
 pub mod AtOneProgram

@@ -1,0 +1,131 @@
+-- What an outcome that is no refusal says: an image that was made, a run that was done, an expansion that was written. Each test on the
+-- way passed, since the other branch is a refusal. Assumes nothing.
+use mathlib.Core.Path.{_≡_, refl, sym, ap, _∙_}
+use mathlib.Core.Bool.{Bool, true, false, cond}
+use mathlib.Core.List.{List, [], _∷_, flatMap}
+use Prim.Native.Nat.{ℕ, _*_, _≤_}
+use native.Mathlib.Omega.{arith}
+use borrow.Author.Tests.{ltb-false, eqb-true}
+use lib.Dec.{ltb, eqb}
+use lib.ListN.{length, getD}
+use Rattle.model.specs.Limits.{stateSize, rowWidth}
+use Rattle.model.specs.Answers.{Report, done, refused, counted, Outcome, outcome, unlessRefused, atFront}
+use Rattle.model.specs.Places.{State}
+use Rattle.model.specs.Stored.{lines, lineCount, codes, programCheck}
+use Rattle.model.specs.Step.{Row}
+use Rattle.model.specs.Run.{Ran, run, answer, leaves, runOutcome}
+use Rattle.model.specs.Images.{BitState, image, back, every, bitRight, imageRight, carried}
+use Rattle.model.specs.Expansion.{expand}
+use Rattle.model.specs.Marks.{markCheck, expandOutcome}
+use Rattle.model.proofs.BackLaws.{bits-right}
+
+-- ---- one step back
+
+never-done : {k l : ℕ} {vs : List ℕ} → refused k l ≡ done vs → ⊥
+never-done e = let z : _≡_ {A = ℕ} 0 1 = cc in omega arith
+
+pub record Passed (t : Bool) (b : Bool) (x y : Outcome) : Type 0 where
+  pub test : t ≡ b
+  pub then : x ≡ y
+
+passed-if : (t : Bool) (x : Outcome) (k l : ℕ) (ss : List (List ℕ)) {vs : List ℕ} {us : List (List ℕ)}
+    → cond t x (outcome (refused k l) ss) ≡ outcome (done vs) us → Passed t true x (outcome (done vs) us)
+passed-if true x k l ss e = record { test = refl; then = e }
+passed-if false x k l ss e = absurd (never-done (ap (λ (o : Outcome). o .answer) e))
+
+passed-unless : (t : Bool) (x : Outcome) (k l : ℕ) (ss : List (List ℕ)) {vs : List ℕ} {us : List (List ℕ)}
+    → cond t (outcome (refused k l) ss) x ≡ outcome (done vs) us → Passed t false x (outcome (done vs) us)
+passed-unless true x k l ss e = absurd (never-done (ap (λ (o : Outcome). o .answer) e))
+passed-unless false x k l ss e = record { test = refl; then = e }
+
+pub record Went (r : Report) (x y : Outcome) : Type 0 where
+  pub values : List ℕ
+  pub check : r ≡ done values
+  pub then : x ≡ y
+
+went : (r : Report) (x : Outcome) (ss : List (List ℕ)) {vs : List ℕ} {us : List (List ℕ)}
+    → unlessRefused r ss x ≡ outcome (done vs) us → Went r x (outcome (done vs) us)
+went (done ws) x ss e = record { values = ws; check = refl; then = e }
+went (refused k l) x ss e = absurd (never-done (ap (λ (o : Outcome). o .answer) e))
+
+-- the store, and the two stores, of an outcome
+abbrev pub first-store : Outcome → List ℕ
+first-store o = getD (o .stores) 0 []
+
+abbrev pub second-store : Outcome → List ℕ
+second-store o = getD (o .stores) 1 []
+
+-- ---- images
+
+pub record Carried (right : ℕ → ℕ → Bool) (over : State → State) (from into result : State) : Type 0 where
+  pub long : length from ≡ stateSize
+  pub passes : every right 0 from ≡ true
+  pub made : result ≡ over from
+
+pub carried-made : (right : ℕ → ℕ → Bool) (over : State → State) (from into result : State) (vs : List ℕ)
+    → carried right over from into ≡ outcome (done vs) (result ∷ []) → Carried right over from into result
+unfolding carried
+carried-made right over from into result vs e =
+    let w1 = passed-if (eqb (length from) stateSize) _ 18 0 (into ∷ []) e in
+    let w2 = passed-if (eqb (length into) stateSize) _ 18 0 (into ∷ []) (w1 .then) in
+    let w3 = passed-if (every right 0 from) _ 19 0 (into ∷ []) (w2 .then) in
+    record { long = eqb-true _ _ (w1 .test); passes = w3 .test; made = sym (ap first-store (w3 .then)) }
+
+-- what `to_image` made is the image of a bit state
+pub image-made : (bits into v : State) (vs : List ℕ) → carried bitRight image bits into ≡ outcome (done vs) (v ∷ []) → BitState bits × (v ≡ image bits)
+image-made bits into v vs e =
+    let c = carried-made bitRight image bits into v vs e in
+    (bits-right bits (c .long) (c .passes), c .made)
+
+-- ---- runs
+
+pub record RunDone (p : List ℕ) (k b : ℕ) (s : State) (t : List ℕ) (vs : List ℕ) (s′ : State) (t′ : List ℕ) : Type 0 where
+  pub values : List ℕ
+  pub checked : programCheck p ≡ done values
+  pub long : length s ≡ stateSize
+  pub room : rowWidth * b ≤ length t
+  pub answered : done vs ≡ answer (lines p) (run (lines p) b k s)
+  pub state : s′ ≡ run (lines p) b k s .state
+  pub trace : t′ ≡ atFront (flatMap (λ r. r) (run (lines p) b k s .rows)) t
+
+pub run-done : (p : List ℕ) (k b : ℕ) (s : State) (t vs : List ℕ) (s′ : State) (t′ : List ℕ)
+    → runOutcome p k b s t ≡ outcome (done vs) (s′ ∷ t′ ∷ []) → RunDone p k b s t vs s′ t′
+unfolding runOutcome leaves
+run-done p k b s t vs s′ t′ e =
+    let w = went (programCheck p) _ (s ∷ t ∷ []) e in
+    let w1 = passed-if (eqb (length s) stateSize) _ 18 0 (s ∷ t ∷ []) (w .then) in
+    let w2 = passed-unless (ltb (length t) (rowWidth * b)) (leaves (lines p) (run (lines p) b k s) t) 20 0 (s ∷ t ∷ []) (w1 .then) in
+    record {
+      values = w .values;
+      checked = w .check;
+      long = eqb-true _ _ (w1 .test);
+      room = ltb-false _ _ (w2 .test);
+      answered = sym (ap (λ (o : Outcome). o .answer) (w2 .then));
+      state = sym (ap first-store (w2 .then));
+      trace = sym (ap second-store (w2 .then));
+    }
+
+-- ---- expansions
+
+pub record Written (p out : List ℕ) (n : ℕ) (e : List ℕ) : Type 0 where
+  pub values : List ℕ
+  pub checked : markCheck p ≡ done values
+  pub room : length (expand (lines p)) ≤ lineCount out
+  pub count : n ≡ length (expand (lines p))
+  pub listing : e ≡ atFront (flatMap codes (expand (lines p))) out
+
+one-value : {m n : ℕ} → counted m ≡ counted n → m ≡ n
+one-value e = cc
+
+pub expansion-written : (p out : List ℕ) (n : ℕ) (e : List ℕ) → expandOutcome p out ≡ outcome (counted n) (e ∷ []) → Written p out n e
+unfolding expandOutcome
+expansion-written p out n e h =
+    let w = went (markCheck p) _ (out ∷ []) h in
+    let w1 = passed-unless (ltb (lineCount out) (length (expand (lines p)))) _ 17 0 (out ∷ []) (w .then) in
+    record {
+      values = w .values;
+      checked = w .check;
+      room = ltb-false _ _ (w1 .test);
+      count = sym (one-value (ap (λ (o : Outcome). o .answer) (w1 .then)));
+      listing = sym (ap first-store (w1 .then));
+    }
