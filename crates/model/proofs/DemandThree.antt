@@ -24,7 +24,7 @@ use Rattle.model.specs.Lines.{correct}
 use Rattle.model.specs.Images.{Bit, BitState, SamePublic, ButScratch, image}
 use Rattle.model.specs.Expansion.{partOf, size, start, expand}
 use Rattle.model.specs.Marks.{markFault, AllRight, Accepted}
-use Rattle.model.specs.Claims.{span, SameRuns, EqualTraces, Correspondence}
+use Rattle.model.specs.Claims.{span, SameRuns, EqualTraces, Correspondence, DemandThree}
 use Rattle.model.proofs.Runs.{stopped, step-run, run-zero, Seen, cut, seen-past}
 use Rattle.model.proofs.Parts.{start-end}
 use Rattle.model.proofs.PlaceLaws.{same-sym, same-sensitive}
@@ -238,3 +238,6 @@ correspondence p A k n s bs =
       least = C .least;
       most = C .most;
     }
+
+pub demand-three : DemandThree
+demand-three = (equal-traces, correspondence)

@@ -1,6 +1,6 @@
 -- What an outcome that is no refusal says: an image that was made, a run that was done, an expansion that was written. Each test on the
 -- way passed, since the other branch is a refusal. Assumes nothing.
-use mathlib.Core.Path.{_≡_, refl, sym, ap, _∙_}
+use mathlib.Core.Path.{_≡_, refl, sym, ap}
 use mathlib.Core.Bool.{Bool, true, false, cond}
 use mathlib.Core.List.{List, [], _∷_, flatMap}
 use Prim.Native.Nat.{ℕ, _*_, _≤_}
@@ -12,9 +12,8 @@ use Rattle.model.specs.Limits.{stateSize, rowWidth}
 use Rattle.model.specs.Answers.{Report, done, refused, counted, Outcome, outcome, unlessRefused, atFront}
 use Rattle.model.specs.Places.{State}
 use Rattle.model.specs.Stored.{lines, lineCount, codes, programCheck}
-use Rattle.model.specs.Step.{Row}
-use Rattle.model.specs.Run.{Ran, run, answer, leaves, runOutcome}
-use Rattle.model.specs.Images.{BitState, image, back, every, bitRight, imageRight, carried}
+use Rattle.model.specs.Run.{run, answer, leaves, runOutcome}
+use Rattle.model.specs.Images.{BitState, image, every, bitRight, carried}
 use Rattle.model.specs.Expansion.{expand}
 use Rattle.model.specs.Marks.{markCheck, expandOutcome}
 use Rattle.model.proofs.BackLaws.{bits-right}

@@ -22,7 +22,7 @@ use Rattle.model.specs.declared.Line.{Line}
 use Rattle.model.specs.Limits.{lineWidth, maxLines}
 use Rattle.model.specs.Answers.{Report, counted, refused}
 use Rattle.model.specs.Lines.{Filled, filled, fills, isLiteral, operandRight, targetRight, correct}
-use Rattle.model.specs.Stored.{literals, registers, cells, publics, sensitives, tables, marks, opcodes, operands, targets, markCode, opcodeCode, operandCode, targetCode, codes, markOf, opcodeOf, operandOf, targetOf, lineOf, Field, Parsed, numbers, wrong, orWrong, sameFilled, noLiteral, parsed, storedField, parsedNumbers, fault, lineCount, lineAt, faultAt, linesFrom, lines, checkFrom, programCheck}
+use Rattle.model.specs.Stored.{literals, registers, cells, publics, sensitives, tables, marks, opcodes, operands, targets, markCode, opcodeCode, operandCode, targetCode, codes, markOf, opcodeOf, operandOf, targetOf, lineOf, Field, Parsed, numbers, wrong, orWrong, sameFilled, noLiteral, parsed, storedField, parsedNumbers, fault, lineCount, atLine, lineAt, faultAt, linesFrom, lines, checkFrom, programCheck}
 use Rattle.model.proofs.TestLaws.{below, is-true, holds, and-both, both-and, some-if, get-past}
 
 -- ---- a field's number, its form, and its number again
@@ -536,10 +536,6 @@ check-answer p = by (ltb maxLines (lineCount p))
     by : (t : Bool) → CheckAnswer p (cond t (refused 7 maxLines) (checkFrom p 0 (lineCount p)))
     by true = refuses 7 maxLines refl
     by false = check-from-answer p 0 (lineCount p)
-
--- the six numbers of line i
-abbrev pub atLine {ℓ} : {A : Type ℓ} → (ℕ → ℕ → ℕ → ℕ → ℕ → ℕ → A) → List ℕ → ℕ → A
-atLine f p i = f (getD p (lineWidth * i) 0) (getD p (lineWidth * i + 1) 0) (getD p (lineWidth * i + 2) 0) (getD p (lineWidth * i + 3) 0) (getD p (lineWidth * i + 4) 0) (getD p (lineWidth * i + 5) 0)
 
 abbrev pub sixNumbers : ℕ → ℕ → ℕ → ℕ → ℕ → ℕ → List ℕ
 sixNumbers m o d a b t = m ∷ o ∷ d ∷ a ∷ b ∷ t ∷ []

@@ -33,8 +33,8 @@ span p zero k s = 0
 span p (suc n) k s = elim (getElem? p k) [ none ↦ 0 | some l ↦ size l + span p n (next l k s) (after l s) ]
 
 -- after that many steps the expansion stands at the start of the line where the source stands, or at its end where the source has
--- ended, and its state is the image of the source's but for r1 to r3. The source's state stays a bit state, and n source steps take at
--- least n steps of the expansion and at most `longest` times n
+-- ended, and its state is the image of the source's but for r1 to r3. The source's state stays a bit state, and the source's steps done
+-- take at least as many steps of the expansion and at most `longest` times as many
 pub record Follows (p : List Line) (k n : ℕ) (s : State) : Type 0 where
   pub steps : length (run (expand p) (span p n k s) (start p k) (image s) .rows) ≡ span p n k s
   pub stands : run (expand p) (span p n k s) (start p k) (image s) .at ≡ start p (run p n k s .at)
@@ -49,3 +49,7 @@ Correspondence = (p : List Line) → Accepted p → (k n : ℕ) (s : State) → 
 -- the start of a source line at or past the line count is the expansion's end
 abbrev pub Ends : Type 0
 Ends = (p : List Line) (k : ℕ) → length p ≤ k → start p k ≡ length (expand p)
+
+-- demand 3 is one claim
+abbrev pub DemandThree : Type 0
+DemandThree = EqualTraces × Correspondence

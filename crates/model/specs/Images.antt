@@ -47,8 +47,8 @@ image s = mapAt imageAt 0 s
 
 -- the way back: sensitive places decoded, r1 to r3 and the table page cleared; r0 is 0 already
 unfoldable pub backAt : ℕ → ℕ → ℕ
-unfolding kind
-backAt i x = byKind (kind i) 0 x (cond (eqb x 1) 1 0)
+unfolding kind code
+backAt i x = byKind (kind i) 0 x (cond (eqb x (code 1)) 1 0)
 
 unfoldable pub back : State → State
 unfolding mapAt backAt

@@ -36,7 +36,7 @@ isSensitive Fixed = false
 isSensitive Public = false
 isSensitive Sensitive = true
 
--- the kind of the places that an operand names; `!` is public and `%` sensitive whatever the base holds
+-- the kind of the places that an operand names: `!` is public, `%` sensitive and `^` neither, whatever the base holds
 unfoldable pub kindOf : Operand → Kind
 unfolding kind
 kindOf Empty = Fixed

@@ -23,7 +23,7 @@ weight = ones
 
 -- the Hamming distance: the bits in which two numbers differ
 unfoldable pub distance : ℕ → ℕ → ℕ
-distance x y = ones (bitXor x y)
+distance x y = weight (bitXor x y)
 
 -- add keeps the lowest eight bits
 abbrev pub wrappingAdd : ℕ → ℕ → ℕ

@@ -86,7 +86,8 @@ targetCode NoTarget = 0
 targetCode (ToLine t) = 1 + t
 
 abbrev pub codes : Line → List ℕ
-codes l = markCode (l .mark) ∷ opcodeCode (l .opcode) ∷ operandCode (l .destination) ∷ operandCode (l .first) ∷ operandCode (l .second) ∷ targetCode (l .target) ∷ []
+codes l = markCode (l .mark) ∷ opcodeCode (l .opcode) ∷ operandCode (l .destination)
+    ∷ operandCode (l .first) ∷ operandCode (l .second) ∷ targetCode (l .target) ∷ []
 
 -- from numbers to a line; a number out of range gives some field too
 abbrev pub markOf : ℕ → Mark
@@ -109,7 +110,14 @@ unfoldable pub targetOf : ℕ → Target
 targetOf n = cond (eqb n 0) NoTarget (ToLine (n - 1))
 
 abbrev pub lineOf : ℕ → ℕ → ℕ → ℕ → ℕ → ℕ → Line
-lineOf m o d a b t = record { mark = markOf m; opcode = opcodeOf o; destination = operandOf d; first = operandOf a; second = operandOf b; target = targetOf t }
+lineOf m o d a b t = record {
+  mark = markOf m;
+  opcode = opcodeOf o;
+  destination = operandOf d;
+  first = operandOf a;
+  second = operandOf b;
+  target = targetOf t;
+}
 
 -- ---- conditions 3 to 6, for stored numbers and for text alike
 
@@ -128,7 +136,8 @@ orWrong k (some n) next = next n
 orWrong k none next = wrong k
 
 abbrev pub sameFilled : Filled → Filled → Bool
-sameFilled x y = Bool·beq (x .destination) (y .destination) && Bool·beq (x .first) (y .first) && Bool·beq (x .second) (y .second) && Bool·beq (x .target) (y .target)
+sameFilled x y = Bool·beq (x .destination) (y .destination) && Bool·beq (x .first) (y .first)
+    && Bool·beq (x .second) (y .second) && Bool·beq (x .target) (y .target)
 
 abbrev pub noLiteral : Option ℕ → Option ℕ
 noLiteral none = none
@@ -168,11 +177,16 @@ fault (wrong k) = k
 abbrev pub lineCount : List ℕ → ℕ
 lineCount p = length p / lineWidth
 
+-- a function of six numbers at those of line i
+abbrev pub atLine {ℓ} : {A : Type ℓ} → (ℕ → ℕ → ℕ → ℕ → ℕ → ℕ → A) → List ℕ → ℕ → A
+atLine f p i = f (getD p (lineWidth * i) 0) (getD p (lineWidth * i + 1) 0) (getD p (lineWidth * i + 2) 0)
+    (getD p (lineWidth * i + 3) 0) (getD p (lineWidth * i + 4) 0) (getD p (lineWidth * i + 5) 0)
+
 abbrev pub lineAt : List ℕ → ℕ → Line
-lineAt p i = lineOf (getD p (lineWidth * i) 0) (getD p (lineWidth * i + 1) 0) (getD p (lineWidth * i + 2) 0) (getD p (lineWidth * i + 3) 0) (getD p (lineWidth * i + 4) 0) (getD p (lineWidth * i + 5) 0)
+lineAt p i = atLine lineOf p i
 
 abbrev pub faultAt : List ℕ → ℕ → ℕ
-faultAt p i = fault (parsedNumbers (getD p (lineWidth * i) 0) (getD p (lineWidth * i + 1) 0) (getD p (lineWidth * i + 2) 0) (getD p (lineWidth * i + 3) 0) (getD p (lineWidth * i + 4) 0) (getD p (lineWidth * i + 5) 0))
+faultAt p i = fault (atLine parsedNumbers p i)
 
 -- n lines from line i on
 unfoldable pub linesFrom : List ℕ → ℕ → ℕ → List Line
