@@ -1,8 +1,8 @@
 -- The edges that document 01 marks to be proved, in one table with one fact over it, and its printed examples. All by computation.
 -- Assumes nothing.
 use mathlib.Core.Path.{_≡_, refl}
-use mathlib.Core.List.{List, [], _∷_, flatMap}
-use Prim.Native.Nat.{_+_}
+use mathlib.Core.List.{List, [], _∷_}
+use Prim.Native.Nat.{ℕ, _+_}
 use lib.Count.{ones}
 use lib.Dec.{T}
 use lib.ListN.{replicate, set}
@@ -12,13 +12,14 @@ use Rattle.model.specs.declared.Operand.the-variants.{Empty, Literal, Re
 use Rattle.model.specs.declared.Line.{Line}
 use Rattle.model.specs.Answers.{counted, halted, outcome}
 use Rattle.model.specs.Places.{State, address}
-use Rattle.model.specs.Stored.{operandOf, targetOf}
-use Rattle.model.specs.Text.{spellMark, spellOpcode, spellOperand, spellTarget, spellLine, readOutcome}
+use Rattle.model.specs.Stored.{linesFrom, operandOf, targetOf}
+use Rattle.model.specs.Text.{spellMark, spellOpcode, spellOperand, spellTarget, readOutcome}
 use Rattle.model.specs.Step.{weight, distance, alu, row, next, after}
 use Rattle.model.specs.Run.{run, answer}
 use Rattle.model.specs.Code.{code, page, andTable, orrTable, xorTable}
 use Rattle.model.specs.Images.{image}
 use Rattle.model.specs.Expansion.{two, move, load, flip, store, expand}
+use Rattle.model.specs.Programs.{expandPrints, tracePrints}
 use Rattle.model.proofs.Finite.{Pair, pair, agree}
 
 -- ---- the marked edges
@@ -61,16 +62,6 @@ pub printed-lines : expand printed ≡
 unfolding expand load flip store
 printed-lines = refl
 
--- as the first program prints them, a line of bytes for each
-pub printed-text : flatMap spellLine (expand printed) ≡
-    115 ∷ 44 ∷ 109 ∷ 111 ∷ 118 ∷ 44 ∷ 114 ∷ 49 ∷ 44 ∷ 114 ∷ 48 ∷ 44 ∷ 44 ∷ 10 ∷
-    115 ∷ 44 ∷ 109 ∷ 111 ∷ 118 ∷ 44 ∷ 114 ∷ 49 ∷ 44 ∷ 114 ∷ 49 ∷ 55 ∷ 44 ∷ 44 ∷ 10 ∷
-    115 ∷ 44 ∷ 120 ∷ 111 ∷ 114 ∷ 44 ∷ 114 ∷ 49 ∷ 44 ∷ 114 ∷ 49 ∷ 44 ∷ 35 ∷ 51 ∷ 44 ∷ 10 ∷
-    115 ∷ 44 ∷ 109 ∷ 111 ∷ 118 ∷ 44 ∷ 114 ∷ 49 ∷ 54 ∷ 44 ∷ 114 ∷ 48 ∷ 44 ∷ 44 ∷ 10 ∷
-    115 ∷ 44 ∷ 109 ∷ 111 ∷ 118 ∷ 44 ∷ 114 ∷ 49 ∷ 54 ∷ 44 ∷ 114 ∷ 49 ∷ 44 ∷ 44 ∷ 10 ∷ []
-unfolding flatMap spellLine expand load flip store
-printed-text = refl
-
 -- the trace from the image of the all-zero state, and `halted,5`
 pub printed-rows : run (expand printed) 1000 0 (image (replicate 544 0)) .rows ≡
     (0 ∷ 0 ∷ 0 ∷ 0 ∷ 0 ∷ 0 ∷ [])
@@ -86,7 +77,29 @@ pub printed-answer : answer (expand printed) (run (expand printed) 1000 0 (image
 unfolding answer run expand image row next after ones load flip store
 printed-answer = refl
 
--- reading the line gives its six numbers
-pub printed-read : readOutcome (115 ∷ 44 ∷ 110 ∷ 111 ∷ 116 ∷ 44 ∷ 114 ∷ 49 ∷ 54 ∷ 44 ∷ 114 ∷ 49 ∷ 55 ∷ 44 ∷ 44 ∷ 10 ∷ []) (replicate 7 9) ≡ outcome (counted 1) ((1 ∷ 2 ∷ 273 ∷ 274 ∷ 0 ∷ 0 ∷ 9 ∷ []) ∷ [])
+-- the line's bytes, and what the two programs print of them, a line of bytes for each
+abbrev input : List ℕ
+input = 115 ∷ 44 ∷ 110 ∷ 111 ∷ 116 ∷ 44 ∷ 114 ∷ 49 ∷ 54 ∷ 44 ∷ 114 ∷ 49 ∷ 55 ∷ 44 ∷ 44 ∷ 10 ∷ []
+
+pub printed-numbers : readOutcome input (replicate 7 9) ≡ outcome (counted 1) ((1 ∷ 2 ∷ 273 ∷ 274 ∷ 0 ∷ 0 ∷ 9 ∷ []) ∷ [])
 unfolding readOutcome spellMark spellOpcode spellOperand spellTarget operandOf targetOf
-printed-read = refl
+printed-numbers = refl
+
+pub printed-expansion : expandPrints input ≡
+    115 ∷ 44 ∷ 109 ∷ 111 ∷ 118 ∷ 44 ∷ 114 ∷ 49 ∷ 44 ∷ 114 ∷ 48 ∷ 44 ∷ 44 ∷ 10 ∷
+    115 ∷ 44 ∷ 109 ∷ 111 ∷ 118 ∷ 44 ∷ 114 ∷ 49 ∷ 44 ∷ 114 ∷ 49 ∷ 55 ∷ 44 ∷ 44 ∷ 10 ∷
+    115 ∷ 44 ∷ 120 ∷ 111 ∷ 114 ∷ 44 ∷ 114 ∷ 49 ∷ 44 ∷ 114 ∷ 49 ∷ 44 ∷ 35 ∷ 51 ∷ 44 ∷ 10 ∷
+    115 ∷ 44 ∷ 109 ∷ 111 ∷ 118 ∷ 44 ∷ 114 ∷ 49 ∷ 54 ∷ 44 ∷ 114 ∷ 48 ∷ 44 ∷ 44 ∷ 10 ∷
+    115 ∷ 44 ∷ 109 ∷ 111 ∷ 118 ∷ 44 ∷ 114 ∷ 49 ∷ 54 ∷ 44 ∷ 114 ∷ 49 ∷ 44 ∷ 44 ∷ 10 ∷ []
+unfolding expandPrints spellMark spellOpcode spellOperand spellTarget operandOf targetOf linesFrom load flip store
+printed-expansion = refl
+
+pub printed-trace : tracePrints input ≡
+    48 ∷ 44 ∷ 48 ∷ 44 ∷ 48 ∷ 44 ∷ 48 ∷ 44 ∷ 48 ∷ 44 ∷ 48 ∷ 10 ∷
+    49 ∷ 44 ∷ 49 ∷ 44 ∷ 49 ∷ 44 ∷ 48 ∷ 44 ∷ 48 ∷ 44 ∷ 48 ∷ 10 ∷
+    50 ∷ 44 ∷ 49 ∷ 44 ∷ 50 ∷ 44 ∷ 48 ∷ 44 ∷ 48 ∷ 44 ∷ 48 ∷ 10 ∷
+    51 ∷ 44 ∷ 48 ∷ 44 ∷ 49 ∷ 44 ∷ 48 ∷ 44 ∷ 48 ∷ 44 ∷ 48 ∷ 10 ∷
+    52 ∷ 44 ∷ 49 ∷ 44 ∷ 49 ∷ 44 ∷ 48 ∷ 44 ∷ 48 ∷ 44 ∷ 48 ∷ 10 ∷
+    104 ∷ 97 ∷ 108 ∷ 116 ∷ 101 ∷ 100 ∷ 44 ∷ 53 ∷ 10 ∷ []
+unfolding tracePrints spellMark spellOpcode spellOperand spellTarget operandOf targetOf linesFrom load flip store row next after ones
+printed-trace = refl

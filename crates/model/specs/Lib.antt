@@ -10,4 +10,5 @@ pub mod Code
 pub mod Images
 pub mod Expansion
 pub mod Marks
+pub mod Programs
 pub mod Claims
