@@ -47,7 +47,7 @@ three x y z h =
     let g = nor-T x y (f .0) in
     (g .0, g .1, f .1)
 
-cond-zero : (b : Bool) (c m : ℕ) → 0 < c → cond b c m ≡ 0 → T (not b) × (m ≡ 0)
+pub cond-zero : (b : Bool) (c m : ℕ) → 0 < c → cond b c m ≡ 0 → T (not b) × (m ≡ 0)
 cond-zero true c m h e = absurd (omega arith)
 cond-zero false c m h e = (tt, e)
 

@@ -20,6 +20,7 @@ pub mod UnmarkedLines
 pub mod Simulation
 pub mod DemandThree
 pub mod BackLaws
+pub mod ExpansionLaws
 pub mod OutcomeLaws
 pub mod Edges
 pub mod AtOneProgram

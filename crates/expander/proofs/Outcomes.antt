@@ -1,0 +1,136 @@
+-- What the mark check and the expander answer, and what the lent store holds afterwards.
+-- Assumes nothing.
+use mathlib.Core.Path.{_≡_, sym, ap, _∙_}
+use mathlib.Core.Bool.{Bool, true, false, cond}
+use mathlib.Core.List.{List, [], _∷_, flatMap}
+use mathlib.Core.Logic.{inl, inr}
+use Prim.Native.Nat.{ℕ, _+_, _*_, _≤_, _<_}
+use native.Mathlib.Omega.{arith}
+use borrow.Author.Tests.{lt-ltb, le-ltb}
+use lib.Dec.{eqb, ltb}
+use lib.ListN.{length, getD}
+use denote.Enum.Declared.{tagOf}
+use types.Run.{OneOf}
+use Rattle.model.proofs.Answer.{the-type}
+use Rattle.model.specs.declared.Answer.{Answer}
+use Rattle.model.specs.declared.Answer.the-variants.{Count, Halted, Spent, Refused}
+use Rattle.model.specs.declared.Line.{Line}
+use Rattle.model.specs.Answers.{Report, done, report, outcome, counted, refused, orElse}
+use Rattle.model.specs.Stored.{codes, lineCount, lines, programCheck}
+use Rattle.model.specs.Expansion.{start, joined, expand}
+use Rattle.model.specs.Limits.{maxAccepted, longest}
+use Rattle.model.specs.Marks.{markFault, firstBad, marksOf, markCheck, expandOutcome, Accepted}
+use Rattle.model.proofs.StoredLaws.{length-lines, codes-length}
+use Rattle.model.proofs.ExpansionLaws.{expand-length, expansion-most, expansion-correct, joined-same, mark-accepted}
+use Rattle.coding.proofs.Programs.{no-ending}
+use Rattle.expander.specs.Starts.{lookedUp, Starts}
+use Rattle.expander.specs.Writes.{put, written}
+use Rattle.expander.proofs.StoreWrites.{stored-correct}
+use Rattle.expander.proofs.StartTable.{starts-found, starts-last}
+
+-- ---- answers that are no count: a check only counts or refuses
+
+-- an answer by the number of its variant: not the first
+abbrev pub NoCount : Answer → Type 0
+NoCount a = OneOf (1 ∷ 2 ∷ 3 ∷ []) (tagOf the-type a)
+
+counts-not : (n : ℕ) → NoCount (Count n) → ⊥
+counts-not n (inl e) = omega arith
+counts-not n (inr (inl e)) = omega arith
+counts-not n (inr (inr e)) = omega arith
+
+values : Report → List ℕ
+values (done v) = v
+values (refused k i) = []
+
+either-few : (b : Bool) (x y : Report) → length (values x) ≤ 1 → length (values y) ≤ 1 → length (values (cond b x y)) ≤ 1
+either-few true x y h g = h
+either-few false x y h g = g
+
+first-few : (n i : ℕ) (ls : List Line) → length (values (firstBad n i ls)) ≤ 1
+unfolding firstBad values
+first-few n i [] = omega arith
+first-few n i (l ∷ ls) = either-few (eqb (markFault n l) 0) (firstBad n (i + 1) ls) (refused (markFault n l) i) (first-few n (i + 1) ls) (omega arith)
+
+check-few : (p : List ℕ) → length (values (markCheck p)) ≤ 1
+unfolding markCheck marksOf values
+check-few p = go (programCheck p)
+  where
+    go : (r : Report) → length (values (orElse r (marksOf (lines p)))) ≤ 1
+    go (done v) = either-few (ltb maxAccepted (length (lines p))) (refused 9 0) (firstBad (length (lines p)) 0 (lines p)) (omega arith) (first-few (length (lines p)) 0 (lines p))
+    go (refused k i) = omega arith
+
+no-ending-marked : (p : List ℕ) (k counter steps : ℕ) → done (k ∷ counter ∷ steps ∷ []) ≡ markCheck p → ⊥
+unfolding values
+no-ending-marked p k counter steps e = omega (arith, check-few p, ap (λ (r : Report). length (values r)) e)
+
+-- ---- the mark check
+
+pub check-stops : (p : List ℕ) (a : Answer) → NoCount a → report a ≡ programCheck p → report a ≡ markCheck p
+unfolding markCheck
+check-stops p (Count n) k e = absurd (counts-not n k)
+check-stops p (Halted counter steps) k e = absurd (no-ending p 0 counter steps e)
+check-stops p (Spent counter steps) k e = absurd (no-ending p 1 counter steps e)
+check-stops p (Refused number line) k e = rw (← e)
+
+pub check-goes-on : (p : List ℕ) (a r : Answer) (n : ℕ) → report a ≡ programCheck p → a ≡ Count n → report r ≡ marksOf (lines p) → report r ≡ markCheck p
+unfolding markCheck
+check-goes-on p a r n e q w = rw (← e, q) w
+
+-- ---- the expansion of an accepted program
+
+pub accepted-few : (p : List ℕ) → Accepted (lines p) → lineCount p ≤ maxAccepted
+unfolding Accepted
+accepted-few p A = omega (arith, A .0, length-lines p)
+
+module _ (p starts out : List ℕ) (A : Accepted (lines p)) (S : Starts starts (lines p) (lineCount p)) where
+  whole-length : length (expand (lines p)) ≡ start (lines p) (lineCount p)
+  whole-length = expand-length (lines p) (lineCount p) (sym (length-lines p))
+
+  same-expansion : joined (lookedUp starts) (lines p) ≡ expand (lines p)
+  unfolding expand Accepted
+  same-expansion =
+      joined-same (lookedUp starts) (start (lines p)) (length (lines p))
+      (λ k h. starts-found starts (lines p) (lineCount p) (accepted-few p A) S k (omega (arith, length-lines p))) (lines p) (A .1)
+
+  -- the last start, which is the length of the expansion
+  pub total-is : getD starts (lineCount p) 0 ≡ start (lines p) (lineCount p)
+  total-is = starts-last starts (lines p) (lineCount p) S
+
+  pub total-few : getD starts (lineCount p) 0 ≤ longest * maxAccepted
+  total-few = omega (arith, total-is, whole-length, expansion-most (lines p) A)
+
+  pub no-room : lineCount out < getD starts (lineCount p) 0 → outcome (refused 17 0) (out ∷ []) ≡ written (expand (lines p)) out
+  unfolding written
+  no-room h = rw (lt-ltb (lineCount out) (length (expand (lines p))) (omega (arith, total-is, whole-length)))
+
+  pub all-written : (o : List ℕ) → getD starts (lineCount p) 0 ≤ lineCount out → o ≡ put out 0 (joined (lookedUp starts) (lines p))
+      → outcome (counted (getD starts (lineCount p) 0)) (o ∷ []) ≡ written (expand (lines p)) out
+  unfolding written put
+  all-written o h e =
+      let q : 6 * (0 + length (expand (lines p))) ≡ length (flatMap codes (expand (lines p))) = omega (arith, codes-length (expand (lines p))) in
+      rw (
+        e,
+        same-expansion,
+        stored-correct (expand (lines p)) (expansion-correct (lines p) A),
+        q,
+        le-ltb (lineCount out) (length (expand (lines p))) (omega (arith, total-is, whole-length)),
+        total-is ∙ sym whole-length,
+      )
+
+-- ---- the expansion of any stored program
+
+pub expand-stops : (p out : List ℕ) (a : Answer) → NoCount a → report a ≡ markCheck p → outcome (report a) (out ∷ []) ≡ expandOutcome p out
+unfolding expandOutcome
+expand-stops p out (Count n) k e = absurd (counts-not n k)
+expand-stops p out (Halted counter steps) k e = absurd (no-ending-marked p 0 counter steps e)
+expand-stops p out (Spent counter steps) k e = absurd (no-ending-marked p 1 counter steps e)
+expand-stops p out (Refused number line) k e = rw (← e)
+
+pub expand-goes-on : (p out o : List ℕ) (a r : Answer) (n : ℕ) → report a ≡ markCheck p → a ≡ Count n → outcome (report r) (o ∷ []) ≡ written (expand (lines p)) out
+    → outcome (report r) (o ∷ []) ≡ expandOutcome p out
+unfolding expandOutcome written
+expand-goes-on p out o a r n e q w = rw (← e, q) w
+
+pub accepted-by : (p : List ℕ) (a : Answer) (n : ℕ) → report a ≡ markCheck p → a ≡ Count n → Accepted (lines p)
+accepted-by p a n e q = mark-accepted p n (sym e ∙ ap report q)

@@ -1,0 +1,103 @@
+-- Lines in a store: one after the other is all at once.
+-- Assumes nothing.
+use mathlib.Core.Path.{_≡_, refl, sym, ap, ap₂, _∙_}
+use mathlib.Core.List.{List, [], _∷_, _++_, flatMap, append-assoc, append-nil}
+use mathlib.Core.Option.{some}
+use Prim.Native.Nat.{ℕ, zero, suc, _+_, _*_, _≤_, _<_}
+use native.Mathlib.Numerals.{add-one, add-two, add-three, add-four, add-five}
+use native.Mathlib.Omega.{arith}
+use lib.ListN.{length, getD, getElem?, set, take, drop, length-append, take-append-drop, length-drop, length-take}
+use lib.Seq.{sets-eq, take-at, drop-at, drop-drop, length-take-le, take-all}
+use Rattle.model.specs.declared.Line.{Line}
+use Rattle.model.specs.Stored.{codes}
+use Rattle.model.proofs.TestLaws.{is-true}
+use Rattle.model.proofs.StoredLaws.{AllCorrect}
+use Rattle.coding.proofs.Codes.{codes-fit}
+use Rattle.expander.specs.Writes.{encoded, put}
+
+stored-length : (ls : List Line) → length (flatMap encoded ls) ≡ 6 * length ls
+unfolding flatMap
+stored-length [] = refl
+stored-length (l ∷ ls) = omega (arith, stored-length ls)
+
+stored-append : (a b : List Line) → flatMap encoded (a ++ b) ≡ flatMap encoded a ++ flatMap encoded b
+unfolding flatMap
+stored-append [] b = refl
+stored-append (l ∷ a) b = ap (λ (r : List ℕ). encoded l ++ r) (stored-append a b) ∙ sym (append-assoc (encoded l) (flatMap encoded a) (flatMap encoded b))
+
+-- the numbers of correct lines are stored as they are
+pub stored-correct : (ls : List Line) → AllCorrect ls → flatMap encoded ls ≡ flatMap codes ls
+unfolding flatMap
+stored-correct [] h = refl
+stored-correct (l ∷ ls) h = ap₂ (λ (x y : List ℕ). x ++ y) (codes-fit l (is-true _ (h .0))) (stored-correct ls (h .1))
+
+-- six stores in a row
+six : (t : List ℕ) (k a b c d e f : ℕ) → k + 6 ≤ length t
+    → set (set (set (set (set (set t k a) (k + 1) b) (k + 2) c) (k + 3) d) (k + 4) e) (k + 5) f ≡ take k t ++ (a ∷ b ∷ c ∷ d ∷ e ∷ f ∷ []) ++ drop (k + 6) t
+six t k a b c d e f h = rw (add-one k, add-two k, add-three k, add-four k, add-five k) (sets-eq (a ∷ b ∷ c ∷ d ∷ e ∷ f ∷ []) t k h)
+
+pub one-line : (out n : List ℕ) (at : ℕ) (l : Line) → n ≡ encoded l → 6 * at + 6 ≤ length out
+    → set (set (set (set (set (set out (6 * at) (getD n 0 0)) (6 * at + 1) (getD n 1 0)) (6 * at + 2) (getD n 2 0)) (6 * at + 3) (getD n 3 0)) (6 * at + 4) (getD n 4 0)) (6 * at + 5) (getD n 5 0)
+    ≡ put out at (l ∷ [])
+unfolding put flatMap
+one-line out n at l e h =
+    let q : 6 * (at + 1) ≡ 6 * at + 6 = omega arith in
+    rw (e, q) (six out (6 * at) _ _ _ _ _ _ h)
+
+pub put-none : (out : List ℕ) (k : ℕ) → put out k [] ≡ out
+unfolding put flatMap
+put-none out k =
+    let q : k + 0 ≡ k = omega arith in
+    rw (q, append-nil (take (6 * k) out)) (take-append-drop (6 * k) out)
+
+module _ (out : List ℕ) (k : ℕ) (a : List Line) where
+  front : List ℕ
+  front = take (6 * k) out ++ flatMap encoded a
+
+  front-length : 6 * k ≤ length out → length front ≡ 6 * (k + length a)
+  unfolding front
+  front-length h = length-append (take (6 * k) out) (flatMap encoded a) ∙ omega (arith, length-take-le (6 * k) out h, stored-length a)
+
+  pub put-length : 6 * (k + length a) ≤ length out → length (put out k a) ≡ length out
+  unfolding put front
+  put-length h = length-append front _ ∙ omega (arith, front-length (omega arith), length-drop (6 * (k + length a)) out)
+
+regroup : (a b c d : List ℕ) → ((a ++ b) ++ c) ++ d ≡ (a ++ (b ++ c)) ++ d
+regroup a b c d = simp append-assoc
+
+-- b after a
+pub put-put : (out : List ℕ) (k : ℕ) (a b : List Line) → 6 * (k + length a) ≤ length out → put (put out k a) (k + length a) b ≡ put out k (a ++ b)
+unfolding put front
+put-put out k a b h =
+    let m : ℕ = 6 * (k + length a) in
+    let x : List ℕ = take (6 * k) out ++ flatMap encoded a in
+    let n : length x ≡ m = front-length out k a (omega arith) in
+    let s : 6 * (k + length a + length b) ≡ m + 6 * length b = omega arith in
+    let t : 6 * (k + length (a ++ b)) ≡ m + 6 * length b = omega (arith, length-append a b) in
+    let f : take m (x ++ drop m out) ≡ x = take-at x (drop m out) m n in
+    let g : drop m (x ++ drop m out) ≡ drop m out = drop-at x (drop m out) m n in
+    rw (s, t, f, stored-append a b)
+    (ap (λ (r : List ℕ). (x ++ flatMap encoded b) ++ r)
+    (sym (drop-drop (6 * length b) m (x ++ drop m out)) ∙ ap (drop (6 * length b)) g ∙ drop-drop (6 * length b) m out)
+    ∙ regroup (take (6 * k) out) (flatMap encoded a) (flatMap encoded b) _)
+
+-- ---- one line of some lines after the other
+
+take-next : (ls : List Line) (j : ℕ) (l : Line) → getElem? ls j ≡ some l → take (suc j) ls ≡ take j ls ++ l ∷ []
+take-next [] j l e = let z : _≡_ {A = ℕ} 0 1 = cc in absurd (omega arith)
+take-next (x ∷ ls) zero l e = let q : x ≡ l = cc in rw q
+take-next (x ∷ ls) (suc j) l e = ap (λ (r : List Line). x ∷ r) (take-next ls j l e)
+
+module _ (out o : List ℕ) (at : ℕ) (ls : List Line) (h : 6 * (at + length ls) ≤ length out) where
+  pub next-line : (o′ : List ℕ) (j : ℕ) (l : Line) → j < length ls → o ≡ put out at (take j ls) → getElem? ls j ≡ some l → o′ ≡ put o (at + j) (l ∷ [])
+      → o′ ≡ put out at (take (j + 1) ls)
+  next-line o′ j l g e q w =
+      let n : length (take j ls) ≡ j = length-take-le j ls (omega arith) in
+      let r : put (put out at (take j ls)) (at + length (take j ls)) (l ∷ []) ≡ put out at (take j ls ++ l ∷ []) = put-put out at (take j ls) (l ∷ []) (omega arith) in
+      rw (w, e, add-one j, take-next ls j l q) (rw n at r)
+
+  pub all-lines : (j : ℕ) → length ls ≤ j → o ≡ put out at (take j ls) → o ≡ put out at ls
+  all-lines j g e = rw (e, take-all j ls g)
+
+  pub still-long : (j : ℕ) → o ≡ put out at (take j ls) → length o ≡ length out
+  still-long j e = ap length e ∙ put-length out at (take j ls) (omega (arith, length-take j ls))

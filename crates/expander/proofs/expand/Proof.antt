@@ -1,0 +1,28 @@
+-- `expander::expand` meets its contract. A refusal is handed on; what the mark check passes is accepted. Assumes nothing.
+use Rattle.expander.proofs.Outcomes.{expand-stops, expand-goes-on, accepted-by}
+use borrow.Author.Needs.{needs}
+use Rattle.expander.proofs.expand.Statement.{statement}
+use Rattle.expander.proofs.expand.Tie as tie
+
+check-requires : tie.Need-check-requires
+check-requires c κs = search needs
+
+enum-told : tie.Need-enum-told
+enum-told c = search needs
+
+returns : tie.Need-returns
+returns c = expand-stops (c .before .before .before .before .args .program .now) (c .before .before .before .before .args .out .now) (c .before .check .result) (c .match .keys2) (c .before .check .ensures)
+
+write-expansion-requires : tie.Need-write-expansion-requires
+write-expansion-requires c κs = accepted-by (c .before .before .before .before .before .before .args .program .now) (c .before .before .before .check .result) _ (c .before .before .before .check .ensures) (c .before .enum-told .given .1)
+
+same-length : tie.Need-same-length
+same-length c = search needs
+
+returns-2 : tie.Need-returns-2
+returns-2 c = expand-goes-on (c .before .before .before .before .before .before .before .before .before .args .program .now) (c .before .before .before .before .before .before .before .before .before .args .out .now) _ (c .before .before .before .before .before .before .check .result) (c .before .before .write-expansion .result) _ (c .before .before .before .before .before .before .check .ensures) (c .before .before .before .before .enum-told .given .1) (c .before .before .write-expansion .ensures)
+
+pub expand-spec : {M : Type 1} → statement M
+expand-spec =
+    tie.close
+    (tie.spec check-requires enum-told returns write-expansion-requires same-length returns-2)

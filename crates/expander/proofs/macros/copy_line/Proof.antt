@@ -1,0 +1,25 @@
+-- `expander::macros::copy_line` meets its contract. A return for each piece: a line of it, past the piece before it.
+-- Assumes nothing.
+use Rattle.expander.proofs.PieceLines.{copy-first, copy-store}
+use Rattle.model.specs.Expansion.{copy, load, store}
+use native.Mathlib.Omega.{arith}
+use borrow.Author.Needs.{needs}
+use Rattle.expander.proofs.macros.copy_line.Statement.{statement}
+use Rattle.expander.proofs.macros.copy_line.Tie as tie
+
+load-line-requires : tie.Need-load-line-requires
+load-line-requires c κs = search needs
+
+returns : tie.Need-returns
+unfolding copy load store
+returns c = λ h. copy-first (c .before .before .args .d) (c .before .before .args .a) (c .before .before .args .j) _ (c .load-line .ensures (c .before .if1 .taken))
+
+store-line-requires : tie.Need-store-line-requires
+store-line-requires c κs = search needs
+
+returns-2 : tie.Need-returns-2
+unfolding copy load store
+returns-2 c = λ h. copy-store (c .before .before .args .d) (c .before .before .args .a) (c .before .before .args .j) _ (c .before .if1 .left) (c .store-line .ensures (omega arith))
+
+pub copy-line-spec : {M : Type 1} → statement M
+copy-line-spec = tie.close (tie.spec load-line-requires returns store-line-requires returns-2)

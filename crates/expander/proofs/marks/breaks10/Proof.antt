@@ -1,0 +1,31 @@
+-- `expander::marks::breaks10` meets its contract. The tests that it joins are those of the definition. Assumes nothing.
+use Rattle.model.specs.Marks.{breaks10}
+use borrow.Author.Needs.{needs}
+use Rattle.expander.proofs.marks.breaks10.Statement.{statement}
+use Rattle.expander.proofs.marks.breaks10.Tie as tie
+
+is-reserved-requires : tie.Need-is-reserved-requires
+is-reserved-requires c κs = search needs
+
+is-reserved-requires-2 : tie.Need-is-reserved-requires-2
+is-reserved-requires-2 c κs = search needs
+
+is-reserved-requires-3 : tie.Need-is-reserved-requires-3
+is-reserved-requires-3 c κs = search needs
+
+any-requires : tie.Need-any-requires
+any-requires c κs = search needs
+
+returns : tie.Need-returns
+unfolding breaks10
+returns c = cc
+
+pub breaks10-spec : {M : Type 1} → statement M
+breaks10-spec =
+    tie.close
+    (tie.spec
+    is-reserved-requires
+    is-reserved-requires-2
+    is-reserved-requires-3
+    any-requires
+    returns)

@@ -1,0 +1,26 @@
+-- `expander::marks::breaks11` meets its contract. The tests that it joins are those of the definition. Assumes nothing.
+use Rattle.model.specs.Marks.{breaks11}
+use borrow.Author.Needs.{needs}
+use Rattle.expander.proofs.marks.breaks11.Statement.{statement}
+use Rattle.expander.proofs.marks.breaks11.Tie as tie
+
+is-marked-requires : tie.Need-is-marked-requires
+is-marked-requires c κs = search needs
+
+is-public-requires : tie.Need-is-public-requires
+is-public-requires c κs = search needs
+
+is-sensitive-requires : tie.Need-is-sensitive-requires
+is-sensitive-requires c κs = search needs
+
+choose-requires : tie.Need-choose-requires
+choose-requires c κs = search needs
+
+returns : tie.Need-returns
+unfolding breaks11
+returns c = cc
+
+pub breaks11-spec : {M : Type 1} → statement M
+breaks11-spec =
+    tie.close
+    (tie.spec is-marked-requires is-public-requires is-sensitive-requires choose-requires returns)

@@ -1,0 +1,73 @@
+-- `expander::marks::check_marks` meets its contract. The loop's invariant: the check of the lines that are left answers as the whole does.
+-- Assumes nothing.
+use Prim.Native.Nat.{_≤_, _-_}
+use mathlib.Core.Path.{_≡_, _∙_}
+use lib.ListN.{drop}
+use native.Mathlib.Omega.{arith}
+use borrow.Author.Needs.{needs}
+use Rattle.model.specs.Stored.{lines}
+use Rattle.model.specs.Marks.{firstBad, marksOf}
+use Rattle.expander.proofs.MarkWalk.{passes, fails, ends, too-long, begins}
+use Rattle.expander.proofs.marks.check_marks.Statement.{statement}
+use Rattle.expander.proofs.marks.check_marks.Tie as tie
+
+abbrev Inv-loop : tie.InvT-loop
+Inv-loop program count i₀ i = (i ≤ count) × (firstBad count i (drop i (lines program)) ≡ marksOf (lines program))
+
+abbrev μ-loop : tie.MeasureT-loop
+μ-loop program count i₀ i = count - i
+
+returns : tie.Need-returns Inv-loop μ-loop
+returns c = too-long (c .before .before .args .program .now) (c .if1 .taken)
+
+loop-holds : tie.Need-loop-holds Inv-loop μ-loop
+loop-holds c = (omega arith, begins (c .before .before .args .program .now) (c .if1 .left))
+
+cast-mark-fault : tie.Need-cast-mark-fault Inv-loop μ-loop
+cast-mark-fault c = omega arith
+
+line-at-requires : tie.Need-line-at-requires Inv-loop μ-loop
+line-at-requires c κs = search needs
+
+mark-fault-requires : tie.Need-mark-fault-requires Inv-loop μ-loop
+mark-fault-requires c κs = search needs
+
+cast-t10 : tie.Need-cast-t10 Inv-loop μ-loop
+cast-t10 c = omega arith
+
+returns-2 : tie.Need-returns-2 Inv-loop μ-loop
+returns-2 c = fails (c .before .before .before .before .before .before .before .args .program .now) _ (c .before .before .before .before .loop .i) _ _ (c .before .before .before .loop-test .taken) (c .before .before .line-at .ensures) (c .before .mark-fault .ensures) (c .if2 .taken) ∙ c .before .before .before .before .loop .inv .1
+
+add-i : tie.Need-add-i Inv-loop μ-loop
+add-i c = omega arith
+
+loop-less : tie.Need-loop-less Inv-loop μ-loop
+loop-less c = omega arith
+
+loop-again : tie.Need-loop-again Inv-loop μ-loop
+loop-again c = (omega arith, passes (c .before .before .before .before .before .before .before .args .program .now) _ (c .before .before .before .before .loop .i) _ _ (c .before .before .before .loop-test .taken) (c .before .before .line-at .ensures) (c .before .mark-fault .ensures) (c .if2 .left) ∙ c .before .before .before .before .loop .inv .1)
+
+cast-t11 : tie.Need-cast-t11 Inv-loop μ-loop
+cast-t11 c = omega arith
+
+returns-3 : tie.Need-returns-3 Inv-loop μ-loop
+returns-3 c = ends (c .before .before .before .before .args .program .now) _ _ (c .loop-test .left) ∙ c .before .loop .inv .1
+
+pub check-marks-spec : {M : Type 1} → statement M
+check-marks-spec =
+    tie.close
+    (tie.spec
+    Inv-loop
+    μ-loop
+    returns
+    loop-holds
+    cast-mark-fault
+    line-at-requires
+    mark-fault-requires
+    cast-t10
+    returns-2
+    add-i
+    loop-less
+    loop-again
+    cast-t11
+    returns-3)

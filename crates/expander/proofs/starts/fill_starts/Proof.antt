@@ -1,0 +1,73 @@
+-- `expander::starts::fill_starts` meets its contract. The loop's invariant: the sum is the start of line i, and the starts up to it stand in the array.
+-- Assumes nothing.
+use Prim.Native.Nat.{_≤_, _+_, _-_, _*_}
+use mathlib.Core.Path.{_≡_, sym}
+use lib.ListN.{length, length-set}
+use native.Mathlib.Omega.{arith}
+use borrow.Author.Needs.{needs}
+use Rattle.model.specs.Stored.{lines}
+use Rattle.model.specs.Expansion.{start}
+use Rattle.model.proofs.ExpansionLaws.{size-most}
+use Rattle.expander.specs.Starts.{Starts}
+use Rattle.expander.proofs.StartTable.{start-zero, start-next, starts-none, starts-more, starts-all}
+use Rattle.expander.proofs.starts.fill_starts.Statement.{statement}
+use Rattle.expander.proofs.starts.fill_starts.Tie as tie
+
+abbrev Inv-loop : tie.InvT-loop
+Inv-loop program starts₀ count i₀ sum₀ starts i sum = (i ≤ count) × (sum ≤ 13 * i) × (sum ≡ start (lines program) i) × (length starts ≡ 1025) × Starts starts (lines program) i
+
+abbrev μ-loop : tie.MeasureT-loop
+μ-loop program starts₀ count i₀ sum₀ starts i sum = count - i
+
+element-write-starts : tie.Need-element-write-starts Inv-loop μ-loop
+element-write-starts c = search needs
+
+loop-holds : tie.Need-loop-holds Inv-loop μ-loop
+loop-holds c = (omega arith, omega arith, sym (start-zero (lines (c .before .args .program .now))), simp length-set (c .before .pre .1), starts-none (c .before .args .starts .now) _ (omega (arith, c .before .pre .1)))
+
+line-at-requires : tie.Need-line-at-requires Inv-loop μ-loop
+line-at-requires c κs = search needs
+
+size-of-requires : tie.Need-size-of-requires Inv-loop μ-loop
+size-of-requires c κs = search needs
+
+add-sum : tie.Need-add-sum Inv-loop μ-loop
+add-sum c = record { fits = omega (arith, size-most (c .before .line-at .result), c .size-of .ensures) }
+
+add-i : tie.Need-add-i Inv-loop μ-loop
+add-i c = search needs
+
+mul-starts : tie.Need-mul-starts Inv-loop μ-loop
+mul-starts c = search needs
+
+element-write-starts-2 : tie.Need-element-write-starts-2 Inv-loop μ-loop
+element-write-starts-2 c = omega arith
+
+loop-less : tie.Need-loop-less Inv-loop μ-loop
+loop-less c = search needs
+
+loop-again : tie.Need-loop-again Inv-loop μ-loop
+loop-again c =
+    let e : c .before .before .before .loop .sum + c .size-of .result ≡ start (lines (c .before .before .before .before .before .args .program .now)) (c .before .before .before .loop .i + 1) = start-next (c .before .before .before .before .before .args .program .now) (c .before .before .before .loop .i) _ _ _ (c .before .before .loop-test .taken) (c .before .before .before .loop .inv .2) (c .before .line-at .ensures) (c .size-of .ensures) in
+    (omega arith, omega (arith, size-most (c .before .line-at .result), c .size-of .ensures), e, simp length-set (c .before .before .before .loop .inv .3), starts-more (c .before .before .before .loop .starts) _ (c .before .before .before .loop .i) _ (omega (arith, c .before .before .before .loop .inv .3)) (c .before .before .before .loop .inv .4) e)
+
+returns : tie.Need-returns Inv-loop μ-loop
+returns c = starts-all _ _ _ _ (omega arith) (c .before .loop .inv .4)
+
+pub fill-starts-spec : {M : Type 1} → statement M
+fill-starts-spec =
+    tie.close
+    (tie.spec
+    Inv-loop
+    μ-loop
+    element-write-starts
+    loop-holds
+    line-at-requires
+    size-of-requires
+    add-sum
+    add-i
+    mul-starts
+    element-write-starts-2
+    loop-less
+    loop-again
+    returns)

@@ -1,0 +1,13 @@
+-- `expander::starts::retarget` meets its contract. The target is moved, every other field kept. Assumes nothing.
+use borrow.Author.Needs.{needs}
+use Rattle.expander.proofs.starts.retarget.Statement.{statement}
+use Rattle.expander.proofs.starts.retarget.Tie as tie
+
+moved-requires : tie.Need-moved-requires
+moved-requires c κs = search needs
+
+returns : tie.Need-returns
+returns c = cc
+
+pub retarget-spec : {M : Type 1} → statement M
+retarget-spec = tie.close (tie.spec moved-requires returns)

@@ -1,0 +1,76 @@
+-- `expander::writing::put_parts` meets its contract. The loop's invariant: the parts of the first i lines are written, and `at` is the start of line i.
+-- Assumes nothing.
+use Prim.Native.Nat.{_≤_, _+_, _-_}
+use mathlib.Core.Path.{_≡_, refl, sym}
+use lib.ListN.{length, take}
+use native.Mathlib.Omega.{arith}
+use borrow.Author.Needs.{needs}
+use Rattle.model.specs.Stored.{lines}
+use Rattle.model.specs.Expansion.{size, start, joined}
+use Rattle.expander.specs.Starts.{lookedUp}
+use Rattle.expander.specs.Writes.{put}
+use Rattle.expander.proofs.StartTable.{start-zero, start-next}
+use Rattle.expander.proofs.JoinedParts.{most, next-part, parts-long, all-parts, none-joined}
+use Rattle.expander.proofs.writing.put_parts.Statement.{statement}
+use Rattle.expander.proofs.writing.put_parts.Tie as tie
+
+abbrev Inv-loop : tie.InvT-loop
+Inv-loop program starts out₀ count i₀ at₀ out i at = (i ≤ count) × (at ≡ start (lines program) i) × (length out ≡ length out₀) × (out ≡ put out₀ 0 (joined (lookedUp starts) (take i (lines program))))
+
+abbrev μ-loop : tie.MeasureT-loop
+μ-loop program starts out₀ count i₀ at₀ out i at = count - i
+
+loop-holds : tie.Need-loop-holds Inv-loop μ-loop
+loop-holds c = (omega arith, sym (start-zero (lines (c .before .before .args .program .now))), refl, none-joined _ (lookedUp (c .before .before .args .starts .now)) (lines (c .before .before .args .program .now)))
+
+line-at-requires : tie.Need-line-at-requires Inv-loop μ-loop
+line-at-requires c κs = search needs
+
+put-part-requires : tie.Need-put-part-requires Inv-loop μ-loop
+put-part-requires c κs = omega (arith, start-next (c .before .before .before .before .before .before .args .program .now) (c .before .before .before .loop .i) (c .before .before .before .loop .at) (size (c .before .line-at .result)) _ (c .before .before .loop-test .taken) (c .before .before .before .loop .inv .1) (c .before .line-at .ensures) refl, most (c .before .before .before .before .before .before .args .program .now) (c .before .before .before .before .before .before .args .out .now) (lookedUp (c .before .before .before .before .before .before .args .starts .now)) (c .before .before .before .before .before .before .pre) (c .before .before .before .loop .i + 1), c .before .before .before .before .before .before .pre)
+
+size-of-requires : tie.Need-size-of-requires Inv-loop μ-loop
+size-of-requires c κs = search needs
+
+cast-at : tie.Need-cast-at Inv-loop μ-loop
+cast-at c = search needs
+
+add-at : tie.Need-add-at Inv-loop μ-loop
+add-at c = record { fits = omega (arith, start-next (c .before .before .before .before .before .before .before .before .before .before .args .program .now) (c .before .before .before .before .before .before .before .loop .i) (c .before .before .before .before .before .before .before .loop .at) (size (c .before .before .before .before .before .line-at .result)) _ (c .before .before .before .before .before .before .loop-test .taken) (c .before .before .before .before .before .before .before .loop .inv .1) (c .before .before .before .before .before .line-at .ensures) refl, c .size-of .ensures, most (c .before .before .before .before .before .before .before .before .before .before .args .program .now) (c .before .before .before .before .before .before .before .before .before .before .args .out .now) (lookedUp (c .before .before .before .before .before .before .before .before .before .before .args .starts .now)) (c .before .before .before .before .before .before .before .before .before .before .pre) (c .before .before .before .before .before .before .before .loop .i + 1), c .before .before .before .before .before .before .before .before .before .before .pre) }
+
+add-i : tie.Need-add-i Inv-loop μ-loop
+add-i c = search needs
+
+loop-less : tie.Need-loop-less Inv-loop μ-loop
+loop-less c = search needs
+
+loop-again : tie.Need-loop-again Inv-loop μ-loop
+loop-again c =
+    let p = c .before .before .before .before .before .before .before .before .before .before .args .program .now in
+    let f = lookedUp (c .before .before .before .before .before .before .before .before .before .before .args .starts .now) in
+    let e : c .before .before .before .put-part .last .0 ≡ put (c .before .before .before .before .before .before .before .before .before .before .args .out .now) 0 (joined f (take (c .before .before .before .before .before .before .before .loop .i + 1) (lines p))) = next-part (c .before .before .before .before .before .before .before .before .before .before .args .program .now) (c .before .before .before .before .before .before .before .before .before .before .args .out .now) (lookedUp (c .before .before .before .before .before .before .before .before .before .before .args .starts .now)) (c .before .before .before .before .before .before .before .before .before .before .pre) _ _ (c .before .before .before .before .before .before .before .loop .i) (c .before .before .before .before .before .before .before .loop .at) _ (c .before .before .before .before .before .before .loop-test .taken) (c .before .before .before .before .before .before .before .loop .inv .3) (c .before .before .before .before .before .before .before .loop .inv .1) (c .before .before .before .before .before .line-at .ensures) (c .before .before .before .put-part .ensures) in
+    (omega arith, start-next p (c .before .before .before .before .before .before .before .loop .i) (c .before .before .before .before .before .before .before .loop .at) _ _ (c .before .before .before .before .before .before .loop-test .taken) (c .before .before .before .before .before .before .before .loop .inv .1) (c .before .before .before .before .before .line-at .ensures) (c .size-of .ensures), parts-long (c .before .before .before .before .before .before .before .before .before .before .args .program .now) (c .before .before .before .before .before .before .before .before .before .before .args .out .now) (lookedUp (c .before .before .before .before .before .before .before .before .before .before .args .starts .now)) (c .before .before .before .before .before .before .before .before .before .before .pre) _ (c .before .before .before .before .before .before .before .loop .i + 1) e, e)
+
+same-length : tie.Need-same-length Inv-loop μ-loop
+same-length c = search needs
+
+returns : tie.Need-returns Inv-loop μ-loop
+returns c = all-parts (c .before .before .before .before .args .program .now) (c .before .before .before .before .args .out .now) (lookedUp (c .before .before .before .before .args .starts .now)) (c .before .before .before .before .pre) _ (c .before .loop .i) (c .loop-test .left) (c .before .loop .inv .3)
+
+pub put-parts-spec : {M : Type 1} → statement M
+put-parts-spec =
+    tie.close
+    (tie.spec
+    Inv-loop
+    μ-loop
+    loop-holds
+    line-at-requires
+    put-part-requires
+    size-of-requires
+    cast-at
+    add-at
+    add-i
+    loop-less
+    loop-again
+    same-length
+    returns)

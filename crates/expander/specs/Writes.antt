@@ -1,0 +1,28 @@
+-- Lines written into a store, and the last step of an expansion: 17 where the store has fewer lines.
+-- Assumes nothing.
+use mathlib.Core.Bool.{cond}
+use mathlib.Core.List.{List, [], _∷_, _++_, map, flatMap}
+use Prim.Native.Nat.{ℕ, _+_, _*_, _%_}
+use lib.Dec.{ltb}
+use lib.ListN.{length, take, drop}
+use Rattle.model.specs.declared.Line.{Line}
+use Rattle.model.specs.Limits.{lineWidth}
+use Rattle.model.specs.Answers.{Outcome, outcome, counted, refused, atFront}
+use Rattle.model.specs.Stored.{codes, lineCount}
+
+-- the numbers of a line as a store of 16 bits takes them; those of a correct line are its codes
+abbrev pub encoded : Line → List ℕ
+encoded l = map (λ n. n % 65536) (codes l)
+
+-- lines put into a store from line k on; the rest stays
+unfoldable pub put : List ℕ → ℕ → List Line → List ℕ
+unfolding flatMap
+put out k ls = take (lineWidth * k) out ++ flatMap encoded ls ++ drop (lineWidth * (k + length ls)) out
+
+-- lines at the front of a store, or 17
+unfoldable pub written : List Line → List ℕ → Outcome
+unfolding flatMap
+written ls out =
+    cond (ltb (lineCount out) (length ls))
+    (outcome (refused 17 0) (out ∷ []))
+    (outcome (counted (length ls)) (atFront (flatMap codes ls) out ∷ []))

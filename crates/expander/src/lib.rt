@@ -1,0 +1,58 @@
+// The mark check and the expansion of stored programs. marks.rt has the conditions of a line, macros.rt the lines that a line becomes,
+// starts.rt the starts of the lines' parts, writing.rt the parts in a lent store.
+ghost use mathlib.Core.Path.{_≡_};
+ghost use mathlib.Core.List.{[], _∷_};
+ghost use Rattle.model.specs.Answers.{report, outcome};
+ghost use Rattle.model.specs.Stored.{lines};
+ghost use Rattle.model.specs.Marks.{markCheck, expandOutcome, Accepted};
+ghost use Rattle.model.specs.Expansion.{expand as expansionOf};
+ghost use Rattle.expander.specs.Writes.{written};
+use coding::LINE_WIDTH;
+use model::Answer;
+
+mod macros;
+mod marks;
+mod starts;
+mod writing;
+
+// The mark check of a stored program: its line count, or 7, 3 to 6, then 9 to 16.
+pub fn check(program: &[u16]) -> Answer
+    ensures { λ r. ⌜ report r ≡ markCheck (now (program .entry)) ⌝ }
+{
+    let checked = coding::check_program(program);
+    let Answer::Count(_) = checked else {
+        return checked;
+    };
+    marks::check_marks(program)
+}
+
+// The expansion of an accepted program: its count of lines, or 17 with nothing touched.
+fn write_expansion(program: &[u16], out: &mut [u16]) -> Answer
+    requires { ⌜ Accepted (lines (now program)) ⌝ }
+    ensures { λ r. ⌜ outcome (report r) (now (out .exit) ∷ []) ≡ written (expansionOf (lines (now (program .entry)))) (now (out .entry)) ⌝ }
+{
+    let count = program.len() / LINE_WIDTH;
+    let mut starts = [0u16; 1025];
+    starts::fill_starts(program, &mut starts);
+    let total = starts[count];
+    if out.len() / LINE_WIDTH < (total as usize) {
+        return Answer::Refused {
+            number: 17,
+            line: 0,
+        };
+    }
+    writing::put_parts(program, &starts, out);
+    Answer::Count(total as u32)
+}
+
+// The expansion of a stored program at the front of a lent store: its count of lines, or the mark check's refusal, then 17. A refusal
+// leaves the store untouched.
+pub fn expand(program: &[u16], out: &mut [u16]) -> Answer
+    ensures { λ r. ⌜ outcome (report r) (now (out .exit) ∷ []) ≡ expandOutcome (now (program .entry)) (now (out .entry)) ⌝ }
+{
+    let checked = check(program);
+    let Answer::Count(_) = checked else {
+        return checked;
+    };
+    write_expansion(program, out)
+}

@@ -1,0 +1,4 @@
+pub mod Tests
+pub mod Table
+pub mod Tables
+pub mod Walk

@@ -1,0 +1,13 @@
+-- `images::bit_of` meets its contract. By its callees' promises. Assumes nothing.
+use Rattle.images.proofs.Tests.{tests}
+use Rattle.images.proofs.bit_of.Statement.{statement}
+use Rattle.images.proofs.bit_of.Tie as tie
+
+returns : tie.Need-returns
+returns c = search tests
+
+returns-2 : tie.Need-returns-2
+returns-2 c = search tests
+
+pub bit-of-spec : {M : Type 1} → statement M
+bit-of-spec = tie.close (tie.spec returns returns-2)

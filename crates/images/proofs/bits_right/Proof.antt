@@ -1,0 +1,60 @@
+-- `images::bits_right` meets its contract. The loop's invariant: the test of the places that are left answers as the whole does.
+-- Assumes nothing.
+use Prim.Native.Nat.{_≤_, _-_}
+use mathlib.Core.Path.{_≡_, refl, sym, _∙_}
+use lib.ListN.{length, drop}
+use native.Mathlib.Omega.{arith}
+use Rattle.model.specs.Images.{bitRight, every}
+use Rattle.images.proofs.Walk.{every-pass, every-fail, every-end}
+use borrow.Author.Needs.{needs}
+use Rattle.images.proofs.bits_right.Statement.{statement}
+use Rattle.images.proofs.bits_right.Tie as tie
+
+abbrev Inv-loop : tie.InvT-loop
+Inv-loop bits i₀ i = (i ≤ length bits) × (every bitRight i (drop i bits) ≡ every bitRight 0 bits)
+
+abbrev μ-loop : tie.MeasureT-loop
+μ-loop bits i₀ i = length bits - i
+
+loop-holds : tie.Need-loop-holds Inv-loop μ-loop
+loop-holds c = (omega arith, refl)
+
+shared-slice-read-bit-right : tie.Need-shared-slice-read-bit-right Inv-loop μ-loop
+shared-slice-read-bit-right c = search needs
+
+bit-right-requires : tie.Need-bit-right-requires Inv-loop μ-loop
+bit-right-requires c κs = search needs
+
+add-i : tie.Need-add-i Inv-loop μ-loop
+add-i c = search needs
+
+loop-less : tie.Need-loop-less Inv-loop μ-loop
+loop-less c = search needs
+
+loop-again : tie.Need-loop-again Inv-loop μ-loop
+loop-again c =
+    let l = c .before .before .before .before .loop in
+    (omega arith, every-pass bitRight _ (l .i) (c .before .before .before .loop-test .taken) (sym (c .before .bit-right .ensures) ∙ c .if1 .taken) ∙ l .inv .1)
+
+returns : tie.Need-returns Inv-loop μ-loop
+returns c =
+    let l = c .before .before .before .before .loop in
+    every-fail bitRight _ (l .i) (c .before .before .before .loop-test .taken) (sym (c .before .bit-right .ensures) ∙ c .if1 .left) ∙ l .inv .1
+
+returns-2 : tie.Need-returns-2 Inv-loop μ-loop
+returns-2 c = every-end _ _ _ (search needs) ∙ c .before .loop .inv .1
+
+pub bits-right-spec : {M : Type 1} → statement M
+bits-right-spec =
+    tie.close
+    (tie.spec
+    Inv-loop
+    μ-loop
+    loop-holds
+    shared-slice-read-bit-right
+    bit-right-requires
+    add-i
+    loop-less
+    loop-again
+    returns
+    returns-2)

@@ -1,0 +1,41 @@
+-- `images::from_image` meets its contract. A return for each case of `carried`. Assumes nothing.
+use Rattle.model.specs.Images.{back, imageRight}
+use Rattle.images.proofs.Walk.{first-long, second-long, turned-down, goes-over}
+use borrow.Author.Needs.{needs}
+use Rattle.images.proofs.from_image.Statement.{statement}
+use Rattle.images.proofs.from_image.Tie as tie
+
+returns : tie.Need-returns
+returns c = first-long imageRight back (c .before .before .before .args .image .now) (c .before .before .before .args .bits .now) (c .if1 .taken)
+
+returns-2 : tie.Need-returns-2
+returns-2 c = second-long imageRight back (c .before .before .before .before .args .image .now) (c .before .before .before .before .args .bits .now) (c .before .if1 .left) (c .if2 .taken)
+
+places-right-requires : tie.Need-places-right-requires
+places-right-requires c κs = search needs
+
+put-back-requires : tie.Need-put-back-requires
+put-back-requires c κs = search needs
+
+same-length : tie.Need-same-length
+same-length c = search needs
+
+returns-3 : tie.Need-returns-3
+returns-3 c =
+    let d = c .before .before .before .before in
+    goes-over imageRight back (c .before .before .before .before .before .before .before .before .before .before .args .image .now) (c .before .before .before .before .before .before .before .before .before .before .args .bits .now) _ _ (d .before .before .before .if1 .left) (d .before .before .if2 .left) (d .before .places-right .ensures) (d .if3 .taken) (c .before .before .put-back .ensures)
+
+returns-4 : tie.Need-returns-4
+returns-4 c = turned-down imageRight back (c .before .before .before .before .before .before .args .image .now) (c .before .before .before .before .before .before .args .bits .now) _ (c .before .before .before .if1 .left) (c .before .before .if2 .left) (c .before .places-right .ensures) (c .if3 .left)
+
+pub from-image-spec : {M : Type 1} → statement M
+from-image-spec =
+    tie.close
+    (tie.spec
+    returns
+    returns-2
+    places-right-requires
+    put-back-requires
+    same-length
+    returns-3
+    returns-4)

@@ -1,0 +1,41 @@
+-- `images::to_image` meets its contract. A return for each case of `carried`. Assumes nothing.
+use Rattle.model.specs.Images.{image, bitRight}
+use Rattle.images.proofs.Walk.{first-long, second-long, turned-down, goes-over}
+use borrow.Author.Needs.{needs}
+use Rattle.images.proofs.to_image.Statement.{statement}
+use Rattle.images.proofs.to_image.Tie as tie
+
+returns : tie.Need-returns
+returns c = first-long bitRight image (c .before .before .before .args .bits .now) (c .before .before .before .args .image .now) (c .if1 .taken)
+
+returns-2 : tie.Need-returns-2
+returns-2 c = second-long bitRight image (c .before .before .before .before .args .bits .now) (c .before .before .before .before .args .image .now) (c .before .if1 .left) (c .if2 .taken)
+
+bits-right-requires : tie.Need-bits-right-requires
+bits-right-requires c κs = search needs
+
+put-image-requires : tie.Need-put-image-requires
+put-image-requires c κs = search needs
+
+same-length : tie.Need-same-length
+same-length c = search needs
+
+returns-3 : tie.Need-returns-3
+returns-3 c =
+    let d = c .before .before .before .before in
+    goes-over bitRight image (c .before .before .before .before .before .before .before .before .before .before .args .bits .now) (c .before .before .before .before .before .before .before .before .before .before .args .image .now) _ _ (d .before .before .before .if1 .left) (d .before .before .if2 .left) (d .before .bits-right .ensures) (d .if3 .taken) (c .before .before .put-image .ensures)
+
+returns-4 : tie.Need-returns-4
+returns-4 c = turned-down bitRight image (c .before .before .before .before .before .before .args .bits .now) (c .before .before .before .before .before .before .args .image .now) _ (c .before .before .before .if1 .left) (c .before .before .if2 .left) (c .before .bits-right .ensures) (c .if3 .left)
+
+pub to-image-spec : {M : Type 1} → statement M
+to-image-spec =
+    tie.close
+    (tie.spec
+    returns
+    returns-2
+    bits-right-requires
+    put-image-requires
+    same-length
+    returns-3
+    returns-4)

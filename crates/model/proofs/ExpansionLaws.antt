@@ -1,0 +1,374 @@
+-- What the expansion of an accepted program is: correct lines, at most 13 for each source line, whose targets are in it, and a stored
+-- program again. Piece by piece, then by induction over the program. Assumes nothing.
+use mathlib.Core.Path.{_≡_, refl, sym, ap, ap₂, _∙_}
+use mathlib.Core.Bool.{Bool, true, false, not, cond, _&&_}
+use mathlib.Core.List.{List, [], _∷_, _++_, flatMap}
+use Prim.Native.Nat.{ℕ, zero, suc, _+_, _*_, _≤_}
+use native.Mathlib.Omega.{arith}
+use borrow.Author.Tests.{eqb-true, ltb-false, le-ltb}
+use lib.Dec.{T, ltb, leb, eqb, le→leb, nltb→le}
+use lib.ListN.{length}
+use Rattle.model.specs.declared.Mark.{Mark}
+use Rattle.model.specs.declared.Mark.the-variants.{Unmarked, Marked}
+use Rattle.model.specs.declared.Opcode.{Opcode}
+use Rattle.model.specs.declared.Opcode.the-variants.{Nop, Jmp, Not, Mov, And, Orr, Xor, Lsl, Lsr, Add, Mul, Beq, Bne}
+use Rattle.model.specs.declared.Operand.{Operand}
+use Rattle.model.specs.declared.Operand.the-variants.{Empty, Literal, Register, Cell, PublicCell, SensitiveCell, TableCell}
+use Rattle.model.specs.declared.Target.{Target}
+use Rattle.model.specs.declared.Target.the-variants.{Empty as NoTarget, Line as ToLine}
+use Rattle.model.specs.declared.Line.{Line}
+use Rattle.model.specs.Limits.{maxLines, maxAccepted, longest}
+use Rattle.model.specs.Answers.{Report, counted, refused}
+use Rattle.model.specs.Lines.{fills, operandRight, targetRight, isLiteral, correct}
+use Rattle.model.specs.Stored.{codes, lineCount, lines, programCheck}
+use Rattle.model.specs.Code.{code, andTable, orrTable, xorTable}
+use Rattle.model.specs.Expansion.{coded, move, load, scale, join, fetch, flip, store, lookup, negate, copy, macro, moved, retarget, partOf, part, size, start, joined, expand}
+use Rattle.model.specs.Marks.{isAbove, breaks10, breaks11, breaks12, breaks13, breaks14, breaks15, breaks16, markFault, firstBad, marksOf, markCheck, AllRight, Accepted}
+use Rattle.model.proofs.TestLaws.{and-both, both-and}
+use Rattle.model.proofs.Parts.{joined-length}
+use Rattle.model.proofs.Acceptance.{cond-zero}
+use Rattle.model.proofs.StoredLaws.{AllCorrect, CheckAnswer, accepts, refuses, check-answer, program-checked, counted-count, never-counted, length-lines, whole-lines, whole-check, correct-fields}
+
+-- ---- the code of a bit, by whether it is 0
+
+pub code-zero : (n : ℕ) → n ≡ 0 → 2 ≡ code n
+unfolding code
+code-zero n e = rw e
+
+pub code-more : (n : ℕ) → (n ≡ 0 → ⊥) → 1 ≡ code n
+unfolding code
+code-more zero h = absurd (h refl)
+code-more (suc n) h = refl
+
+-- ---- how long a part is
+
+-- the operands do not change a macro's length
+pub macro-length : (o : Opcode) (d a b d′ a′ b′ : Operand) → length (macro o d a b) ≡ length (macro o d′ a′ b′)
+unfolding macro lookup negate copy load scale join fetch flip store
+macro-length Nop d a b d′ a′ b′ = refl
+macro-length Jmp d a b d′ a′ b′ = refl
+macro-length Not d a b d′ a′ b′ = refl
+macro-length Mov d a b d′ a′ b′ = refl
+macro-length And d a b d′ a′ b′ = refl
+macro-length Orr d a b d′ a′ b′ = refl
+macro-length Xor d a b d′ a′ b′ = refl
+macro-length Lsl d a b d′ a′ b′ = refl
+macro-length Lsr d a b d′ a′ b′ = refl
+macro-length Add d a b d′ a′ b′ = refl
+macro-length Mul d a b d′ a′ b′ = refl
+macro-length Beq d a b d′ a′ b′ = refl
+macro-length Bne d a b d′ a′ b′ = refl
+
+macro-most : (o : Opcode) (d a b : Operand) → length (macro o d a b) ≤ longest
+unfolding macro lookup negate copy load scale join fetch flip store
+macro-most Nop d a b = omega arith
+macro-most Jmp d a b = omega arith
+macro-most Not d a b = omega arith
+macro-most Mov d a b = omega arith
+macro-most And d a b = omega arith
+macro-most Orr d a b = omega arith
+macro-most Xor d a b = omega arith
+macro-most Lsl d a b = omega arith
+macro-most Lsr d a b = omega arith
+macro-most Add d a b = omega arith
+macro-most Mul d a b = omega arith
+macro-most Beq d a b = omega arith
+macro-most Bne d a b = omega arith
+
+pub size-most : (l : Line) → size l ≤ longest
+unfolding size partOf
+size-most l = go (l .mark)
+  where
+    go : (m : Mark) → length (partOf m (λ t. t) l) ≤ longest
+    go Unmarked = omega arith
+    go Marked = macro-most (l .opcode) (l .destination) (coded (l .first)) (coded (l .second))
+
+pub start-bound : (p : List Line) (i : ℕ) → start p i ≤ longest * length p
+unfolding start
+start-bound [] i = omega arith
+start-bound (l ∷ p) zero = omega arith
+start-bound (l ∷ p) (suc i) = omega (arith, size-most l, start-bound p i)
+
+-- no line starts past the expansion's end, which is the start of the line past the last
+pub start-within : (p : List Line) (i n : ℕ) → n ≡ length p → start p i ≤ start p n
+unfolding start
+start-within [] i n e = omega arith
+start-within (l ∷ p) zero n e = omega arith
+start-within (l ∷ p) (suc i) zero e = absurd (omega arith)
+start-within (l ∷ p) (suc i) (suc n) e = omega (arith, start-within p i n (omega arith))
+
+pub expand-length : (p : List Line) (n : ℕ) → n ≡ length p → length (expand p) ≡ start p n
+unfolding expand
+expand-length p n e = sym (joined-length (start p) p n (omega arith))
+
+-- ---- the lines of a part are correct
+
+append-correct : (a b : List Line) → AllCorrect a → AllCorrect b → AllCorrect (a ++ b)
+append-correct [] b h g = g
+append-correct (l ∷ a) b h g = (h .0, append-correct a b (h .1) g)
+
+move-correct : (d a : Operand) → T (operandRight true d) → T (not (isLiteral d)) → T (operandRight true a) → T (correct (move d a))
+unfolding correct
+move-correct d a hd nd ha =
+    let x = operandRight true d in
+    let y = not (isLiteral d) in
+    let z = operandRight true a in
+    both-and (x && y && z && true) true (both-and (x && y && z) true (both-and (x && y) z (both-and x y hd nd) ha) tt) tt
+
+load-correct : (n : ℕ) (a : Operand) → T (ltb n 32) → T (operandRight true a) → AllCorrect (load n a)
+unfolding load operandRight isLiteral
+load-correct n a hn ha = (move-correct (Register n) (Register 0) hn tt tt, (move-correct (Register n) a hn tt ha, tt))
+
+scale-correct : AllCorrect scale
+unfolding scale correct
+scale-correct = (tt, (tt, (tt, tt)))
+
+join-correct : AllCorrect join
+unfolding join correct
+join-correct = (tt, (tt, tt))
+
+fetch-correct : (t : ℕ) → T (ltb t 256) → AllCorrect (fetch t)
+unfolding fetch operandRight isLiteral
+fetch-correct t h = (move-correct (Register 3) (Register 0) tt tt tt, (move-correct (Register 3) (TableCell 1 t) tt tt h, tt))
+
+flip-correct : AllCorrect flip
+unfolding flip correct
+flip-correct = (tt, tt)
+
+store-correct : (n : ℕ) (d : Operand) → T (ltb n 32) → T (operandRight true d) → T (not (isLiteral d)) → AllCorrect (store n d)
+unfolding store operandRight
+store-correct n d hn hd nd = (move-correct d (Register 0) hd nd tt, (move-correct d (Register n) hd nd hn, tt))
+
+module _ (d a : Operand) (hd : T (operandRight true d)) (nd : T (not (isLiteral d))) (ha : T (operandRight true a)) where
+  lookup-correct : (t : ℕ) (b : Operand) → T (operandRight true b) → T (ltb t 256) → AllCorrect (lookup t d a b)
+  unfolding lookup
+  lookup-correct t b hb ht =
+      let last : List Line = fetch t ++ store 3 d in
+      let later : List Line = load 2 b ++ (join ++ last) in
+      append-correct (load 1 a) (scale ++ later) (load-correct 1 a tt ha) (append-correct scale later scale-correct
+      (append-correct (load 2 b) (join ++ last) (load-correct 2 b tt hb) (append-correct join last join-correct
+      (append-correct (fetch t) (store 3 d) (fetch-correct t ht) (store-correct 3 d tt hd nd)))))
+
+  negate-correct : AllCorrect (negate d a)
+  unfolding negate
+  negate-correct = append-correct (load 1 a) (flip ++ store 1 d) (load-correct 1 a tt ha) (append-correct flip (store 1 d) flip-correct (store-correct 1 d tt hd nd))
+
+  copy-correct : AllCorrect (copy d a)
+  unfolding copy
+  copy-correct = append-correct (load 3 a) (store 3 d) (load-correct 3 a tt ha) (store-correct 3 d tt hd nd)
+
+macro-correct : (o : Opcode) (d a b : Operand) → T (operandRight (fills o .destination) d) → T (not (isLiteral d)) → T (operandRight (fills o .first) a) → T (operandRight (fills o .second) b)
+    → AllCorrect (macro o d a b)
+unfolding macro fills
+macro-correct Nop d a b hd nd ha hb = tt
+macro-correct Jmp d a b hd nd ha hb = tt
+macro-correct Not d a b hd nd ha hb = negate-correct d a hd nd ha
+macro-correct Mov d a b hd nd ha hb = copy-correct d a hd nd ha
+macro-correct And d a b hd nd ha hb = lookup-correct d a hd nd ha andTable b hb tt
+macro-correct Orr d a b hd nd ha hb = lookup-correct d a hd nd ha orrTable b hb tt
+macro-correct Xor d a b hd nd ha hb = lookup-correct d a hd nd ha xorTable b hb tt
+macro-correct Lsl d a b hd nd ha hb = tt
+macro-correct Lsr d a b hd nd ha hb = tt
+macro-correct Add d a b hd nd ha hb = tt
+macro-correct Mul d a b hd nd ha hb = tt
+macro-correct Beq d a b hd nd ha hb = tt
+macro-correct Bne d a b hd nd ha hb = tt
+
+code-byte : (n : ℕ) → T (leb (code n) 255)
+unfolding code
+code-byte zero = tt
+code-byte (suc n) = tt
+
+coded-right : (must : Bool) (o : Operand) → T (operandRight must o) → T (operandRight must (coded o))
+unfolding operandRight coded
+coded-right must Empty h = h
+coded-right must (Literal n) h = both-and must (leb (code n) 255) (and-both must (leb n 255) h .0) (code-byte n)
+coded-right must (Register n) h = h
+coded-right must (Cell n) h = h
+coded-right must (PublicCell r k) h = h
+coded-right must (SensitiveCell r k) h = h
+coded-right must (TableCell r k) h = h
+
+module _ (starts : ℕ → ℕ) (few : (k : ℕ) → starts k ≤ maxLines) where
+  moved-right : (must : Bool) (t : Target) → T (targetRight must t) → T (targetRight must (moved starts t))
+  unfolding targetRight moved
+  moved-right must NoTarget h = h
+  moved-right must (ToLine t) h = both-and must (leb (starts t) maxLines) (and-both must (leb t maxLines) h .0) (le→leb (starts t) maxLines (few t))
+
+  retarget-correct : (l : Line) → T (correct l) → T (correct (retarget starts l))
+  unfolding correct
+  retarget-correct l h =
+      let before : Bool =
+      operandRight (fills (l .opcode) .destination) (l .destination) && not (isLiteral (l .destination))
+      && operandRight (fills (l .opcode) .first) (l .first) && operandRight (fills (l .opcode) .second) (l .second) in
+      let w = and-both before (targetRight (fills (l .opcode) .target) (l .target)) h in
+      both-and before (targetRight (fills (l .opcode) .target) (moved starts (l .target))) (w .0) (moved-right (fills (l .opcode) .target) (l .target) (w .1))
+
+  part-correct : (l : Line) → T (correct l) → AllCorrect (part starts l)
+  unfolding partOf
+  part-correct l h = go (l .mark)
+    where
+      go : (m : Mark) → AllCorrect (partOf m starts l)
+      go Unmarked = (retarget-correct l h, tt)
+      go Marked =
+          let f = correct-fields l h in
+          macro-correct (l .opcode) (l .destination) (coded (l .first)) (coded (l .second)) (f .destination) (rw (f .place) tt)
+          (coded-right (fills (l .opcode) .first) (l .first) (f .first)) (coded-right (fills (l .opcode) .second) (l .second) (f .second))
+
+  joined-correct : (n : ℕ) (p : List Line) → AllRight n p → AllCorrect (joined starts p)
+  unfolding AllRight joined
+  joined-correct n [] h = tt
+  joined-correct n (l ∷ p) h = append-correct (part starts l) (joined starts p) (part-correct l (h .0)) (joined-correct n p (h .2))
+
+-- the expansion of an accepted program, as a stored program
+module _ (p : List Line) (A : Accepted p) where
+  pub expansion-most : length (expand p) ≤ longest * maxAccepted
+  unfolding Accepted
+  expansion-most = omega (arith, expand-length p (length p) refl, start-bound p (length p), A .0)
+
+  pub expansion-correct : AllCorrect (expand p)
+  unfolding Accepted expand
+  expansion-correct = joined-correct (start p) (λ k. omega (arith, start-bound p k, A .0)) (length p) p (A .1)
+
+  pub expansion-check : programCheck (flatMap codes (expand p)) ≡ counted (length (expand p))
+  expansion-check = whole-check (expand p) expansion-correct (omega (arith, expansion-most))
+
+  pub expansion-lines : lines (flatMap codes (expand p)) ≡ expand p
+  expansion-lines = whole-lines (expand p) expansion-correct
+
+-- ---- targets
+
+-- no target is above n
+abbrev pub Within : ℕ → List Line → Type 0
+Within n [] = Unit {0}
+Within n (l ∷ ls) = T (not (isAbove n (l .target))) × Within n ls
+
+append-within : (n : ℕ) (a b : List Line) → Within n a → Within n b → Within n (a ++ b)
+append-within n [] b h g = g
+append-within n (l ∷ a) b h g = (h .0, append-within n a b (h .1) g)
+
+-- a macro has no targets
+isFree : Target → Bool
+isFree NoTarget = true
+isFree (ToLine t) = false
+
+allFree : List Line → Bool
+allFree [] = true
+allFree (l ∷ ls) = isFree (l .target) && allFree ls
+
+macro-free : (o : Opcode) (d a b : Operand) → T (allFree (macro o d a b))
+unfolding macro lookup negate copy load scale join fetch flip store isFree allFree
+macro-free Nop d a b = tt
+macro-free Jmp d a b = tt
+macro-free Not d a b = tt
+macro-free Mov d a b = tt
+macro-free And d a b = tt
+macro-free Orr d a b = tt
+macro-free Xor d a b = tt
+macro-free Lsl d a b = tt
+macro-free Lsr d a b = tt
+macro-free Add d a b = tt
+macro-free Mul d a b = tt
+macro-free Beq d a b = tt
+macro-free Bne d a b = tt
+
+free-within : (n : ℕ) (t : Target) → T (isFree t) → T (not (isAbove n t))
+unfolding isFree isAbove
+free-within n NoTarget h = tt
+free-within n (ToLine t) h = absurd h
+
+all-within : (n : ℕ) (ls : List Line) → T (allFree ls) → Within n ls
+unfolding allFree
+all-within n [] h = tt
+all-within n (l ∷ ls) h = let w = and-both (isFree (l .target)) (allFree ls) h in (free-within n (l .target) (w .0), all-within n ls (w .1))
+
+module _ (starts : ℕ → ℕ) (n : ℕ) (few : (k : ℕ) → starts k ≤ n) where
+  moved-within : (t : Target) → T (not (isAbove n (moved starts t)))
+  unfolding isAbove moved
+  moved-within NoTarget = tt
+  moved-within (ToLine t) = rw (le-ltb n (starts t) (few t)) tt
+
+  joined-within : (p : List Line) → Within n (joined starts p)
+  unfolding joined partOf
+  joined-within [] = tt
+  joined-within (l ∷ p) = append-within n (part starts l) (joined starts p) (go (l .mark)) (joined-within p)
+    where
+      go : (m : Mark) → Within n (partOf m starts l)
+      go Unmarked = (moved-within (l .target), tt)
+      go Marked = all-within n (macro (l .opcode) (l .destination) (coded (l .first)) (coded (l .second))) (macro-free (l .opcode) (l .destination) (coded (l .first)) (coded (l .second)))
+
+-- every target of an expansion is one of its lines or its end
+pub expansion-within : (p : List Line) → Within (length (expand p)) (expand p)
+unfolding expand
+expansion-within p = joined-within (start p) (length (expand p)) (λ k. omega (arith, expand-length p (length p) refl, start-within p k (length p) refl)) p
+
+-- ---- starts that agree up to the line count give the same expansion
+
+none-above : (n : ℕ) (l : Line) → markFault n l ≡ 0 → T (not (isAbove n (l .target)))
+unfolding markFault breaks16
+none-above n l e =
+    let h10 = cond-zero (breaks10 l) 10 _ (omega arith) e in
+    let h11 = cond-zero (breaks11 l) 11 _ (omega arith) (h10 .1) in
+    let h12 = cond-zero (breaks12 l) 12 _ (omega arith) (h11 .1) in
+    let h13 = cond-zero (breaks13 l) 13 _ (omega arith) (h12 .1) in
+    let h14 = cond-zero (breaks14 l) 14 _ (omega arith) (h13 .1) in
+    let h15 = cond-zero (breaks15 l) 15 _ (omega arith) (h14 .1) in
+    cond-zero (breaks16 n l) 16 0 (omega arith) (h15 .1) .0
+
+module _ (f g : ℕ → ℕ) (n : ℕ) (same : (k : ℕ) → k ≤ n → f k ≡ g k) where
+  moved-same : (t : Target) → T (not (isAbove n t)) → moved f t ≡ moved g t
+  unfolding moved isAbove
+  moved-same NoTarget h = refl
+  moved-same (ToLine t) h = ap ToLine (same t (nltb→le n t h))
+
+  part-same : (l : Line) → markFault n l ≡ 0 → part f l ≡ part g l
+  unfolding partOf
+  part-same l e = go (l .mark)
+    where
+      go : (m : Mark) → partOf m f l ≡ partOf m g l
+      go Unmarked = rw (moved-same (l .target) (none-above n l e))
+      go Marked = refl
+
+  pub joined-same : (p : List Line) → AllRight n p → joined f p ≡ joined g p
+  unfolding joined AllRight
+  joined-same [] h = refl
+  joined-same (l ∷ p) h = ap₂ (λ (a b : List Line). a ++ b) (part-same l (h .1)) (joined-same p (h .2))
+
+-- ---- a stored program that passes the mark check is accepted
+
+if-passed : (t : Bool) (a : Report) (k i n : ℕ) → cond t a (refused k i) ≡ counted n → (t ≡ true) × (a ≡ counted n)
+if-passed true a k i n e = (refl, e)
+if-passed false a k i n e = absurd (never-counted e)
+
+unless-passed : (t : Bool) (a : Report) (k i n : ℕ) → cond t (refused k i) a ≡ counted n → (t ≡ false) × (a ≡ counted n)
+unless-passed true a k i n e = absurd (never-counted e)
+unless-passed false a k i n e = (refl, e)
+
+right-from : (n i m : ℕ) (p : List Line) → AllCorrect p → firstBad n i p ≡ counted m → AllRight n p × (m ≡ n)
+unfolding firstBad AllRight
+right-from n i m [] h e = (tt, sym (counted-count e))
+right-from n i m (l ∷ p) h e =
+    let w = if-passed (eqb (markFault n l) 0) (firstBad n (i + 1) p) (markFault n l) i m e in
+    let r = right-from n (i + 1) m p (h .1) (w .1) in
+    ((h .0, eqb-true (markFault n l) 0 (w .0), r .0), r .1)
+
+marks-passed : (p : List Line) (n : ℕ) → AllCorrect p → marksOf p ≡ counted n → Accepted p × (n ≡ length p)
+unfolding marksOf Accepted
+marks-passed p n h e =
+    let w = unless-passed (ltb maxAccepted (length p)) (firstBad (length p) 0 p) 9 0 n e in
+    let r = right-from (length p) 0 n p h (w .1) in
+    ((ltb-false maxAccepted (length p) (w .0), r .0), r .1)
+
+pub mark-checked : (p : List ℕ) (n : ℕ) → markCheck p ≡ counted n → Accepted (lines p) × (n ≡ lineCount p)
+unfolding markCheck
+mark-checked p n e = go (check-answer p) refl
+  where
+    go : {r : Report} → CheckAnswer p r → programCheck p ≡ r → Accepted (lines p) × (n ≡ lineCount p)
+    go (accepts q) w =
+        let c = program-checked p (lineCount p) (w ∙ q) in
+        let m = marks-passed (lines p) n (c .all-right) (rw (w ∙ q) at e) in
+        (m .0, m .1 ∙ length-lines p)
+    go (refuses k i q) w = absurd (never-counted (rw (w ∙ q) at e))
+
+pub mark-accepted : (p : List ℕ) (n : ℕ) → markCheck p ≡ counted n → Accepted (lines p)
+mark-accepted p n e = mark-checked p n e .0
