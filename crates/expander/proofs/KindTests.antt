@@ -7,9 +7,9 @@ use native.Mathlib.Omega.{arith}
 use borrow.Author.Tests.{lt-ltb, le-ltb}
 use lib.Dec.{ltb}
 use Rattle.model.proofs.PlaceLaws.{sensitive-register, public-cell}
-use Rattle.model.specs.Places.{Fixed, Public, Sensitive, kind, isPublic, isSensitive}
+use Rattle.model.specs.Places.{Neither, Public, Sensitive, kind, isPublic, isSensitive}
 
-public-last : (x y : Bool) → x ≡ isPublic (cond x Public (cond y Sensitive Fixed))
+public-last : (x y : Bool) → x ≡ isPublic (cond x Public (cond y Sensitive Neither))
 public-last true y = refl
 public-last false true = refl
 public-last false false = refl
@@ -18,7 +18,7 @@ pub public-rest : (i : ℕ) → 32 ≤ i → ltb i 160 ≡ isPublic (kind i)
 unfolding kind
 public-rest i h = rw (le-ltb i 4 (omega arith), le-ltb i 16 (omega arith), le-ltb i 32 h) (public-last (ltb i 160) (ltb i 288))
 
-sensitive-first : (x : Bool) → false ≡ isSensitive (cond x Fixed Public)
+sensitive-first : (x : Bool) → false ≡ isSensitive (cond x Neither Public)
 sensitive-first true = refl
 sensitive-first false = refl
 
@@ -32,7 +32,7 @@ sensitive-registers i g h = rw (sensitive-register i g h)
 pub public-cells : (i : ℕ) → 32 ≤ i → i < 160 → false ≡ isSensitive (kind i)
 public-cells i g h = rw (public-cell i g h)
 
-sensitive-last : (x : Bool) → x ≡ isSensitive (cond x Sensitive Fixed)
+sensitive-last : (x : Bool) → x ≡ isSensitive (cond x Sensitive Neither)
 sensitive-last true = refl
 sensitive-last false = refl
 

@@ -15,12 +15,13 @@ use Rattle.model.proofs.Answer.{the-type}
 use Rattle.model.specs.declared.Answer.{Answer}
 use Rattle.model.specs.declared.Answer.the-variants.{Count, Halted, Spent, Refused}
 use Rattle.model.specs.declared.Line.{Line}
-use Rattle.model.specs.Answers.{Report, done, report, outcome, counted, refused, orElse}
+use Rattle.model.specs.Answers.{Report, done, report, outcome, counted, refused, andThen}
 use Rattle.model.specs.Stored.{codes, lineCount, lines, programCheck}
-use Rattle.model.specs.Expansion.{start, joined, expand}
+use Rattle.model.specs.Expansion.{expandOutcome, start, joined, expand}
 use Rattle.model.specs.Limits.{maxAccepted, longest}
-use Rattle.model.specs.Marks.{markFault, firstBad, marksOf, markCheck, expandOutcome, Accepted}
+use Rattle.model.specs.Marks.{markFault, firstBad, marksOf, markCheck, Accepted}
 use Rattle.model.proofs.StoredLaws.{length-lines, codes-length}
+use Rattle.model.proofs.Acceptance.{accepted-right}
 use Rattle.model.proofs.ExpansionLaws.{expand-length, expansion-most, expansion-correct, joined-same, mark-accepted}
 use Rattle.coding.proofs.Programs.{no-ending}
 use Rattle.expander.specs.Starts.{lookedUp, Starts}
@@ -56,7 +57,7 @@ check-few : (p : List ℕ) → length (values (markCheck p)) ≤ 1
 unfolding markCheck marksOf values
 check-few p = go (programCheck p)
   where
-    go : (r : Report) → length (values (orElse r (marksOf (lines p)))) ≤ 1
+    go : (r : Report) → length (values (andThen r (marksOf (lines p)))) ≤ 1
     go (done v) = either-few (ltb maxAccepted (length (lines p))) (refused 9 0) (firstBad (length (lines p)) 0 (lines p)) (omega arith) (first-few (length (lines p)) 0 (lines p))
     go (refused k i) = omega arith
 
@@ -80,18 +81,17 @@ check-goes-on p a r n e q w = rw (← e, q) w
 -- ---- the expansion of an accepted program
 
 pub accepted-few : (p : List ℕ) → Accepted (lines p) → lineCount p ≤ maxAccepted
-unfolding Accepted
-accepted-few p A = omega (arith, A .0, length-lines p)
+accepted-few p A = omega (arith, accepted-right (lines p) A .few, length-lines p)
 
 module _ (p starts out : List ℕ) (A : Accepted (lines p)) (S : Starts starts (lines p) (lineCount p)) where
   whole-length : length (expand (lines p)) ≡ start (lines p) (lineCount p)
   whole-length = expand-length (lines p) (lineCount p) (sym (length-lines p))
 
   same-expansion : joined (lookedUp starts) (lines p) ≡ expand (lines p)
-  unfolding expand Accepted
+  unfolding expand
   same-expansion =
       joined-same (lookedUp starts) (start (lines p)) (length (lines p))
-      (λ k h. starts-found starts (lines p) (lineCount p) (accepted-few p A) S k (omega (arith, length-lines p))) (lines p) (A .1)
+      (λ k h. starts-found starts (lines p) (lineCount p) (accepted-few p A) S k (omega (arith, length-lines p))) (lines p) (accepted-right (lines p) A .right)
 
   -- the last start, which is the length of the expansion
   pub total-is : getD starts (lineCount p) 0 ≡ start (lines p) (lineCount p)

@@ -12,7 +12,7 @@ use Rattle.model.specs.declared.Opcode.the-variants.{Lsl}
 use Rattle.model.specs.declared.Operand.{Operand}
 use Rattle.model.specs.declared.Operand.the-variants.{Literal, Register}
 use Rattle.model.specs.declared.Line.{Line}
-use Rattle.model.specs.Expansion.{two, load, scale, join, fetch, flip, store, lookup, negate, copy, macro}
+use Rattle.model.specs.Expansion.{markedLine, load, scale, combine, fetch, flip, writeBack, lookup, negate, copy, macro}
 
 -- ---- a piece's line
 
@@ -24,7 +24,7 @@ pub second : (j : ℕ) → (j ≡ 0 → ⊥) → j < 2 → j ≡ 1
 second j e h = omega arith
 
 -- the shifts
-pub shifts : (j : ℕ) (r : Line) → (j ≡ 0 → ⊥) → j < 3 → r ≡ two Lsl (Register 1) (Register 1) (Literal 1) → getElem? scale j ≡ some r
+pub shifts : (j : ℕ) (r : Line) → (j ≡ 0 → ⊥) → j < 3 → r ≡ markedLine Lsl (Register 1) (Register 1) (Literal 1) → getElem? scale j ≡ some r
 unfolding scale
 shifts zero r e h q = absurd (e refl)
 shifts (suc zero) r e h q = ap some (sym q)
@@ -50,60 +50,60 @@ later xs ys j k r e h = rw e (past-all xs ys k ∙ h)
 module _ (t : ℕ) (d a b : Operand) (j : ℕ) (r : Line) where
   pub lookup-first : getElem? (load 1 a) j ≡ some r → getElem? (lookup t d a b) j ≡ some r
   unfolding lookup
-  lookup-first e = here (load 1 a) (scale ++ (load 2 b ++ (join ++ (fetch t ++ store 3 d)))) j r e
+  lookup-first e = here (load 1 a) (scale ++ (load 2 b ++ (combine ++ (fetch t ++ writeBack 3 d)))) j r e
 
-  from-2 : 2 ≤ j → getElem? (scale ++ (load 2 b ++ (join ++ (fetch t ++ store 3 d)))) (j - 2) ≡ some r → getElem? (lookup t d a b) j ≡ some r
+  from-2 : 2 ≤ j → getElem? (scale ++ (load 2 b ++ (combine ++ (fetch t ++ writeBack 3 d)))) (j - 2) ≡ some r → getElem? (lookup t d a b) j ≡ some r
   unfolding lookup load
-  from-2 h e = later (load 1 a) (scale ++ (load 2 b ++ (join ++ (fetch t ++ store 3 d)))) j (j - 2) r (omega arith) e
+  from-2 h e = later (load 1 a) (scale ++ (load 2 b ++ (combine ++ (fetch t ++ writeBack 3 d)))) j (j - 2) r (omega arith) e
 
   pub lookup-scale : 2 ≤ j → getElem? scale (j - 2) ≡ some r → getElem? (lookup t d a b) j ≡ some r
-  lookup-scale h e = from-2 h (here scale (load 2 b ++ (join ++ (fetch t ++ store 3 d))) (j - 2) r e)
+  lookup-scale h e = from-2 h (here scale (load 2 b ++ (combine ++ (fetch t ++ writeBack 3 d))) (j - 2) r e)
 
-  from-5 : 5 ≤ j → getElem? (load 2 b ++ (join ++ (fetch t ++ store 3 d))) (j - 5) ≡ some r → getElem? (lookup t d a b) j ≡ some r
+  from-5 : 5 ≤ j → getElem? (load 2 b ++ (combine ++ (fetch t ++ writeBack 3 d))) (j - 5) ≡ some r → getElem? (lookup t d a b) j ≡ some r
   unfolding scale
-  from-5 h e = from-2 (omega arith) (later scale (load 2 b ++ (join ++ (fetch t ++ store 3 d))) (j - 2) (j - 5) r (omega arith) e)
+  from-5 h e = from-2 (omega arith) (later scale (load 2 b ++ (combine ++ (fetch t ++ writeBack 3 d))) (j - 2) (j - 5) r (omega arith) e)
 
   pub lookup-second : 5 ≤ j → getElem? (load 2 b) (j - 5) ≡ some r → getElem? (lookup t d a b) j ≡ some r
-  lookup-second h e = from-5 h (here (load 2 b) (join ++ (fetch t ++ store 3 d)) (j - 5) r e)
+  lookup-second h e = from-5 h (here (load 2 b) (combine ++ (fetch t ++ writeBack 3 d)) (j - 5) r e)
 
-  from-7 : 7 ≤ j → getElem? (join ++ (fetch t ++ store 3 d)) (j - 7) ≡ some r → getElem? (lookup t d a b) j ≡ some r
+  from-7 : 7 ≤ j → getElem? (combine ++ (fetch t ++ writeBack 3 d)) (j - 7) ≡ some r → getElem? (lookup t d a b) j ≡ some r
   unfolding load
-  from-7 h e = from-5 (omega arith) (later (load 2 b) (join ++ (fetch t ++ store 3 d)) (j - 5) (j - 7) r (omega arith) e)
+  from-7 h e = from-5 (omega arith) (later (load 2 b) (combine ++ (fetch t ++ writeBack 3 d)) (j - 5) (j - 7) r (omega arith) e)
 
-  pub lookup-join : 7 ≤ j → getElem? join (j - 7) ≡ some r → getElem? (lookup t d a b) j ≡ some r
-  lookup-join h e = from-7 h (here join (fetch t ++ store 3 d) (j - 7) r e)
+  pub lookup-join : 7 ≤ j → getElem? combine (j - 7) ≡ some r → getElem? (lookup t d a b) j ≡ some r
+  lookup-join h e = from-7 h (here combine (fetch t ++ writeBack 3 d) (j - 7) r e)
 
-  from-9 : 9 ≤ j → getElem? (fetch t ++ store 3 d) (j - 9) ≡ some r → getElem? (lookup t d a b) j ≡ some r
-  unfolding join
-  from-9 h e = from-7 (omega arith) (later join (fetch t ++ store 3 d) (j - 7) (j - 9) r (omega arith) e)
+  from-9 : 9 ≤ j → getElem? (fetch t ++ writeBack 3 d) (j - 9) ≡ some r → getElem? (lookup t d a b) j ≡ some r
+  unfolding combine
+  from-9 h e = from-7 (omega arith) (later combine (fetch t ++ writeBack 3 d) (j - 7) (j - 9) r (omega arith) e)
 
   pub lookup-fetch : 9 ≤ j → getElem? (fetch t) (j - 9) ≡ some r → getElem? (lookup t d a b) j ≡ some r
-  lookup-fetch h e = from-9 h (here (fetch t) (store 3 d) (j - 9) r e)
+  lookup-fetch h e = from-9 h (here (fetch t) (writeBack 3 d) (j - 9) r e)
 
-  pub lookup-store : 11 ≤ j → getElem? (store 3 d) (j - 11) ≡ some r → getElem? (lookup t d a b) j ≡ some r
+  pub lookup-store : 11 ≤ j → getElem? (writeBack 3 d) (j - 11) ≡ some r → getElem? (lookup t d a b) j ≡ some r
   unfolding fetch
-  lookup-store h e = from-9 (omega arith) (later (fetch t) (store 3 d) (j - 9) (j - 11) r (omega arith) e)
+  lookup-store h e = from-9 (omega arith) (later (fetch t) (writeBack 3 d) (j - 9) (j - 11) r (omega arith) e)
 
 module _ (d a : Operand) (j : ℕ) (r : Line) where
   pub negate-first : getElem? (load 1 a) j ≡ some r → getElem? (negate d a) j ≡ some r
   unfolding negate
-  negate-first e = here (load 1 a) (flip ++ store 1 d) j r e
+  negate-first e = here (load 1 a) (flip ++ writeBack 1 d) j r e
 
   pub negate-flip : 2 ≤ j → j < 3 → getElem? flip 0 ≡ some r → getElem? (negate d a) j ≡ some r
   unfolding negate load
-  negate-flip g h e = later (load 1 a) (flip ++ store 1 d) j 0 r (omega arith) (here flip (store 1 d) 0 r e)
+  negate-flip g h e = later (load 1 a) (flip ++ writeBack 1 d) j 0 r (omega arith) (here flip (writeBack 1 d) 0 r e)
 
-  pub negate-store : 3 ≤ j → getElem? (store 1 d) (j - 3) ≡ some r → getElem? (negate d a) j ≡ some r
+  pub negate-store : 3 ≤ j → getElem? (writeBack 1 d) (j - 3) ≡ some r → getElem? (negate d a) j ≡ some r
   unfolding negate load flip
-  negate-store h e = later (load 1 a) (flip ++ store 1 d) j (j - 2) r (omega arith) (later flip (store 1 d) (j - 2) (j - 3) r (omega arith) e)
+  negate-store h e = later (load 1 a) (flip ++ writeBack 1 d) j (j - 2) r (omega arith) (later flip (writeBack 1 d) (j - 2) (j - 3) r (omega arith) e)
 
   pub copy-first : getElem? (load 3 a) j ≡ some r → getElem? (copy d a) j ≡ some r
   unfolding copy
-  copy-first e = here (load 3 a) (store 3 d) j r e
+  copy-first e = here (load 3 a) (writeBack 3 d) j r e
 
-  pub copy-store : 2 ≤ j → getElem? (store 3 d) (j - 2) ≡ some r → getElem? (copy d a) j ≡ some r
+  pub copy-store : 2 ≤ j → getElem? (writeBack 3 d) (j - 2) ≡ some r → getElem? (copy d a) j ≡ some r
   unfolding copy load
-  copy-store h e = later (load 3 a) (store 3 d) j (j - 2) r (omega arith) e
+  copy-store h e = later (load 3 a) (writeBack 3 d) j (j - 2) r (omega arith) e
 
 -- an opcode's macro, and one without lines
 abbrev pub LineOf : Opcode → Operand → Operand → Operand → ℕ → Line → Type 0

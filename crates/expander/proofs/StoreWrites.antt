@@ -11,7 +11,7 @@ use lib.Seq.{sets-eq, take-at, drop-at, drop-drop, length-take-le, take-all}
 use Rattle.model.specs.declared.Line.{Line}
 use Rattle.model.specs.Stored.{codes}
 use Rattle.model.proofs.TestLaws.{is-true}
-use Rattle.model.proofs.StoredLaws.{AllCorrect}
+use Rattle.model.specs.Lines.{AllCorrect}
 use Rattle.coding.proofs.Codes.{codes-fit}
 use Rattle.expander.specs.Writes.{encoded, put}
 

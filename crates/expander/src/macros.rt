@@ -4,7 +4,7 @@ ghost use mathlib.Core.Option.{some};
 ghost use Prim.Native.Nat.{_<_};
 ghost use lib.ListN.{length, getElem?};
 ghost use Rattle.model.specs.Code.{code};
-ghost use Rattle.model.specs.Expansion.{coded, two, move, load, scale, join, fetch, flip, store, lookup, negate, copy, macro, size};
+ghost use Rattle.model.specs.Expansion.{coded, markedLine, move, load, scale, combine, fetch, flip, writeBack, lookup, negate, copy, macro, size};
 use model::Line;
 use model::Mark;
 use model::Opcode;
@@ -25,11 +25,11 @@ const SCALE_AT: usize = 2;
 
 const SECOND_AT: usize = 5;
 
-const JOIN_AT: usize = 7;
+const COMBINE_AT: usize = 7;
 
 const FETCH_AT: usize = 9;
 
-const STORE_AT: usize = 11;
+const WRITE_BACK_AT: usize = 11;
 
 const FLIP_AT: usize = 2;
 
@@ -63,8 +63,8 @@ pub fn coded(operand: Operand) -> Operand
 
 // ---- the lines
 
-fn two(opcode: Opcode, destination: Operand, first: Operand, second: Operand) -> Line
-    ensures { λ r. ⌜ r ≡ two opcode destination first second ⌝ }
+fn marked_line(opcode: Opcode, destination: Operand, first: Operand, second: Operand) -> Line
+    ensures { λ r. ⌜ r ≡ markedLine opcode destination first second ⌝ }
 {
     Line {
         mark: Mark::Marked,
@@ -80,7 +80,7 @@ fn two(opcode: Opcode, destination: Operand, first: Operand, second: Operand) ->
 fn mov(d: Operand, a: Operand) -> Line
     ensures { λ r. ⌜ r ≡ move d a ⌝ }
 {
-    two(Opcode::Mov, d, a, Operand::Empty)
+    marked_line(Opcode::Mov, d, a, Operand::Empty)
 }
 
 // mov rN a
@@ -99,9 +99,9 @@ fn mov_from(d: Operand, n: u8) -> Line
 
 // op rN rN #k
 fn with_literal(opcode: Opcode, n: u8, k: u8) -> Line
-    ensures { λ r. ⌜ r ≡ two opcode (Operand.Register n) (Operand.Register n) (Operand.Literal k) ⌝ }
+    ensures { λ r. ⌜ r ≡ markedLine opcode (Operand.Register n) (Operand.Register n) (Operand.Literal k) ⌝ }
 {
-    two(
+    marked_line(
         opcode,
         Operand::Register(n),
         Operand::Register(n),
@@ -132,13 +132,13 @@ fn scale_line(j: usize) -> Line
 }
 
 // The second code masked, and joined to the first.
-fn join_line(j: usize) -> Line
-    ensures { λ r. ⌜ (j < length join → getElem? join j ≡ some r) ⌝ }
+fn combine_line(j: usize) -> Line
+    ensures { λ r. ⌜ (j < length combine → getElem? combine j ≡ some r) ⌝ }
 {
     if j == 0 {
         return with_literal(Opcode::And, 2, MASK);
     }
-    two(
+    marked_line(
         Opcode::Orr,
         Operand::Register(1),
         Operand::Register(1),
@@ -164,8 +164,8 @@ fn flip_line() -> Line
 }
 
 // The destination precharged, and written from register n.
-fn store_line(j: usize, n: u8, d: Operand) -> Line
-    ensures { λ r. ⌜ (j < length (store n d) → getElem? (store n d) j ≡ some r) ⌝ }
+fn write_back_line(j: usize, n: u8, d: Operand) -> Line
+    ensures { λ r. ⌜ (j < length (writeBack n d) → getElem? (writeBack n d) j ≡ some r) ⌝ }
 {
     if j == 0 {
         return mov_from(d, 0);
@@ -185,16 +185,16 @@ fn lookup_line(j: usize, t: u8, d: Operand, a: Operand, b: Operand) -> Line
     if j < SECOND_AT {
         return scale_line(j - SCALE_AT);
     }
-    if j < JOIN_AT {
+    if j < COMBINE_AT {
         return load_line(j - SECOND_AT, 2, b);
     }
     if j < FETCH_AT {
-        return join_line(j - JOIN_AT);
+        return combine_line(j - COMBINE_AT);
     }
-    if j < STORE_AT {
+    if j < WRITE_BACK_AT {
         return fetch_line(j - FETCH_AT, t);
     }
-    store_line(j - STORE_AT, 3, d)
+    write_back_line(j - WRITE_BACK_AT, 3, d)
 }
 
 // not
@@ -207,7 +207,7 @@ fn negate_line(j: usize, d: Operand, a: Operand) -> Line
     if j < FLIPPED_AT {
         return flip_line();
     }
-    store_line(j - FLIPPED_AT, 1, d)
+    write_back_line(j - FLIPPED_AT, 1, d)
 }
 
 // mov
@@ -217,7 +217,7 @@ fn copy_line(j: usize, d: Operand, a: Operand) -> Line
     if j < COPY_AT {
         return load_line(j, 3, a);
     }
-    store_line(j - COPY_AT, 3, d)
+    write_back_line(j - COPY_AT, 3, d)
 }
 
 // Line j of the macro of an opcode; where the opcode has none, there is no line j.

@@ -6,7 +6,7 @@ ghost use Rattle.model.specs.Answers.{report};
 ghost use Rattle.model.specs.Places.{kind, kindOf, isPublic, isSensitive};
 ghost use Rattle.model.specs.Stored.{lines};
 ghost use Rattle.model.specs.Marks.{isReserved, hasSensitiveBase, isNoBit, hasMacro, isAbove, isMarked};
-ghost use Rattle.model.specs.Marks.{breaks10, breaks11, breaks12, breaks13, breaks14, breaks15, breaks16, markFault, marksOf};
+ghost use Rattle.model.specs.Marks.{holds10, holds11, holds12, holds13, holds14, holds15, holds16, markFault, marksOf};
 use coding::LINE_WIDTH;
 use model::Answer;
 use model::Line;
@@ -191,8 +191,8 @@ fn is_above(count: u16, target: Target) -> bool
 
 // ---- the conditions of a line
 
-fn breaks10(line: Line) -> bool
-    ensures { λ r. ⌜ r ≡ breaks10 line ⌝ }
+fn holds10(line: Line) -> bool
+    ensures { λ r. ⌜ r ≡ holds10 line ⌝ }
 {
     let d = line.destination;
     let a = line.first;
@@ -200,16 +200,16 @@ fn breaks10(line: Line) -> bool
     any(is_reserved(d), is_reserved(a), is_reserved(b))
 }
 
-fn breaks11(line: Line) -> bool
-    ensures { λ r. ⌜ r ≡ breaks11 line ⌝ }
+fn holds11(line: Line) -> bool
+    ensures { λ r. ⌜ r ≡ holds11 line ⌝ }
 {
     let m = line.mark;
     let d = line.destination;
     choose(is_marked(m), is_public(d), is_sensitive(d))
 }
 
-fn breaks12(line: Line) -> bool
-    ensures { λ r. ⌜ r ≡ breaks12 line ⌝ }
+fn holds12(line: Line) -> bool
+    ensures { λ r. ⌜ r ≡ holds12 line ⌝ }
 {
     let m = line.mark;
     let d = line.destination;
@@ -228,8 +228,8 @@ fn breaks12(line: Line) -> bool
     either(argument, base)
 }
 
-fn breaks13(line: Line) -> bool
-    ensures { λ r. ⌜ r ≡ breaks13 line ⌝ }
+fn holds13(line: Line) -> bool
+    ensures { λ r. ⌜ r ≡ holds13 line ⌝ }
 {
     let m = line.mark;
     let a = line.first;
@@ -237,8 +237,8 @@ fn breaks13(line: Line) -> bool
     both(is_marked(m), either(is_public(a), is_public(b)))
 }
 
-fn breaks14(line: Line) -> bool
-    ensures { λ r. ⌜ r ≡ breaks14 line ⌝ }
+fn holds14(line: Line) -> bool
+    ensures { λ r. ⌜ r ≡ holds14 line ⌝ }
 {
     let m = line.mark;
     let o = line.opcode;
@@ -246,8 +246,8 @@ fn breaks14(line: Line) -> bool
     both(is_marked(m), !able)
 }
 
-fn breaks15(line: Line) -> bool
-    ensures { λ r. ⌜ r ≡ breaks15 line ⌝ }
+fn holds15(line: Line) -> bool
+    ensures { λ r. ⌜ r ≡ holds15 line ⌝ }
 {
     let m = line.mark;
     let a = line.first;
@@ -255,8 +255,8 @@ fn breaks15(line: Line) -> bool
     both(is_marked(m), either(is_no_bit(a), is_no_bit(b)))
 }
 
-fn breaks16(count: u16, line: Line) -> bool
-    ensures { λ r. ⌜ r ≡ breaks16 count line ⌝ }
+fn holds16(count: u16, line: Line) -> bool
+    ensures { λ r. ⌜ r ≡ holds16 count line ⌝ }
 {
     let t = line.target;
     is_above(count, t)
@@ -266,25 +266,25 @@ fn breaks16(count: u16, line: Line) -> bool
 fn mark_fault(count: u16, line: Line) -> u8
     ensures { λ r. ⌜ r ≡ markFault count line ⌝ }
 {
-    if breaks10(line) {
+    if holds10(line) {
         return 10;
     }
-    if breaks11(line) {
+    if holds11(line) {
         return 11;
     }
-    if breaks12(line) {
+    if holds12(line) {
         return 12;
     }
-    if breaks13(line) {
+    if holds13(line) {
         return 13;
     }
-    if breaks14(line) {
+    if holds14(line) {
         return 14;
     }
-    if breaks15(line) {
+    if holds15(line) {
         return 15;
     }
-    if breaks16(count, line) {
+    if holds16(count, line) {
         return 16;
     }
     0

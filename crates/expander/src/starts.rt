@@ -4,7 +4,7 @@ ghost use Prim.Native.Nat.{_≤_};
 ghost use lib.ListN.{length};
 ghost use Rattle.model.specs.Limits.{maxAccepted};
 ghost use Rattle.model.specs.Stored.{lineCount, lines};
-ghost use Rattle.model.specs.Expansion.{moved, retarget};
+ghost use Rattle.model.specs.Expansion.{newTarget, retarget};
 ghost use Rattle.expander.specs.Starts.{lookedUp, Starts};
 use super::macros;
 use coding::LINE_WIDTH;
@@ -39,8 +39,8 @@ fn start_at(starts: &[u16; 1025], t: u16) -> u16
     }
 }
 
-fn moved(starts: &[u16; 1025], target: Target) -> Target
-    ensures { λ r. ⌜ r ≡ moved (lookedUp (now (starts .entry))) target ⌝ }
+fn new_target(starts: &[u16; 1025], target: Target) -> Target
+    ensures { λ r. ⌜ r ≡ newTarget (lookedUp (now (starts .entry))) target ⌝ }
 {
     match target {
         Target::Empty => Target::Empty,
@@ -58,7 +58,7 @@ pub fn retarget(starts: &[u16; 1025], line: Line) -> Line
     let first = line.first;
     let second = line.second;
     let t = line.target;
-    let target = moved(starts, t);
+    let target = new_target(starts, t);
     Line {
         mark,
         opcode,

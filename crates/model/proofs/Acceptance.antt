@@ -1,13 +1,16 @@
 -- What acceptance says of a line's operands: those of an unmarked line are public, those of a marked one sensitive. Each condition that
 -- does not hold gives a bound. Assumes nothing.
-use mathlib.Core.Path.{_≡_, refl, subst}
+use mathlib.Core.Path.{_≡_, refl, sym, subst}
 use mathlib.Core.Bool.{Bool, true, false, not, cond, _&&_, _||_}
 use mathlib.Core.List.{List, [], _∷_}
 use mathlib.Core.Option.{some}
 use Prim.Native.Nat.{ℕ, zero, suc, _+_, _≤_, _<_}
 use native.Mathlib.Omega.{arith}
-use lib.Dec.{T, ltb, ltb→lt, nltb→le, leb→le, nleb→lt}
-use lib.ListN.{getElem?}
+use borrow.Author.Tests.{ltb-false, eqb-true}
+use Rattle.model.specs.Limits.{maxAccepted}
+use Rattle.model.specs.Answers.{Report, counted, refused}
+use lib.Dec.{T, eqb, ltb, ltb→lt, nltb→le, leb→le, nleb→lt}
+use lib.ListN.{length, getElem?}
 use Rattle.model.specs.declared.Mark.{Mark}
 use Rattle.model.specs.declared.Mark.the-variants.{Unmarked, Marked}
 use Rattle.model.specs.declared.Opcode.{Opcode}
@@ -16,10 +19,10 @@ use Rattle.model.specs.declared.Operand.the-variants.{Empty, Literal, Re
 use Rattle.model.specs.declared.Target.{Target}
 use Rattle.model.specs.declared.Line.{Line}
 use Rattle.model.specs.Places.{Public, Sensitive, kind, kindOf, isPublic, isSensitive}
-use Rattle.model.specs.Lines.{fills, operandRight, isLiteral, correct}
-use Rattle.model.specs.Marks.{isReserved, hasSensitiveBase, isNoBit, hasMacro, breaks10, breaks11, breaks12, breaks13, breaks14, breaks15, breaks16, markFault, AllRight}
+use Rattle.model.specs.Lines.{fills, operandRight, isLiteral, correct, AllCorrect}
+use Rattle.model.specs.Marks.{isReserved, hasSensitiveBase, isNoBit, hasMacro, holds10, holds11, holds12, holds13, holds14, holds15, holds16, markFault, firstBad, marksOf, Accepted}
 use Rattle.model.proofs.TestLaws.{below, is-true, and-both}
-use Rattle.model.proofs.StoredLaws.{correct-fields}
+use Rattle.model.proofs.StoredLaws.{correct-fields, counted-count, never-counted}
 use Rattle.model.proofs.PlaceLaws.{public-register, sensitive-register, public-cell, sensitive-cell}
 use Rattle.model.proofs.Operands.{Base, SensitivePlace, SensitiveArgument, PublicOperand}
 
@@ -27,6 +30,43 @@ ruleset bounds = (arith, ltb→lt, nltb→le, leb→le, nleb→lt)
 
 abbrev pub mk : Mark → Opcode → Operand → Operand → Operand → Target → Line
 mk m op d a b t = record { mark = m; opcode = op; destination = d; first = a; second = b; target = t }
+
+-- every line is correct, and no condition of a program of n lines holds of it
+unfoldable pub AllRight : ℕ → List Line → Type 0
+AllRight n [] = Unit {0}
+AllRight n (l ∷ ls) = T (correct l) × (markFault n l ≡ 0) × AllRight n ls
+
+if-passed : (t : Bool) (a : Report) (k i n : ℕ) → cond t a (refused k i) ≡ counted n → (t ≡ true) × (a ≡ counted n)
+if-passed true a k i n e = (refl, e)
+if-passed false a k i n e = absurd (never-counted e)
+
+unless-passed : (t : Bool) (a : Report) (k i n : ℕ) → cond t (refused k i) a ≡ counted n → (t ≡ false) × (a ≡ counted n)
+unless-passed true a k i n e = absurd (never-counted e)
+unless-passed false a k i n e = (refl, e)
+
+right-from : (n i m : ℕ) (p : List Line) → AllCorrect p → firstBad n i p ≡ counted m → AllRight n p × (m ≡ n)
+unfolding firstBad AllRight
+right-from n i m [] h e = (tt, sym (counted-count e))
+right-from n i m (l ∷ p) h e =
+    let w = if-passed (eqb (markFault n l) 0) (firstBad n (i + 1) p) (markFault n l) i m e in
+    let r = right-from n (i + 1) m p (h .1) (w .1) in
+    ((h .0, eqb-true (markFault n l) 0 (w .0), r .0), r .1)
+
+pub record MarksRight (p : List Line) (n : ℕ) : Type 0 where
+  pub count : n ≡ length p
+  pub few : length p ≤ maxAccepted
+  pub right : AllRight (length p) p
+
+pub marks-right : (p : List Line) (n : ℕ) → AllCorrect p → marksOf p ≡ counted n → MarksRight p n
+unfolding marksOf
+marks-right p n h e =
+    let w = unless-passed (ltb maxAccepted (length p)) (firstBad (length p) 0 p) 9 0 n e in
+    let r = right-from (length p) 0 n p h (w .1) in
+    record { count = r .1; few = ltb-false maxAccepted (length p) (w .0); right = r .0 }
+
+pub accepted-right : (p : List Line) → Accepted p → MarksRight p (length p)
+unfolding Accepted
+accepted-right p A = marks-right p (length p) (A .0) (A .1)
 
 pub line-at : (n : ℕ) (p : List Line) → AllRight n p → (k : ℕ) (l : Line) → getElem? p k ≡ some l → T (correct l) × (markFault n l ≡ 0)
 unfolding AllRight
@@ -119,24 +159,24 @@ public-operand b (TableCell x k) f r s p = r
 
 -- none of the conditions holds
 record Clear (n : ℕ) (l : Line) : Type 0 where
-  c10 : T (not (breaks10 l))
-  c11 : T (not (breaks11 l))
-  c12 : T (not (breaks12 l))
-  c13 : T (not (breaks13 l))
-  c14 : T (not (breaks14 l))
-  c15 : T (not (breaks15 l))
-  c16 : T (not (breaks16 n l))
+  c10 : T (not (holds10 l))
+  c11 : T (not (holds11 l))
+  c12 : T (not (holds12 l))
+  c13 : T (not (holds13 l))
+  c14 : T (not (holds14 l))
+  c15 : T (not (holds15 l))
+  c16 : T (not (holds16 n l))
 
 clear : (n : ℕ) (l : Line) → markFault n l ≡ 0 → Clear n l
 unfolding markFault
 clear n l e =
-    let h10 = cond-zero (breaks10 l) 10 _ (omega arith) e in
-    let h11 = cond-zero (breaks11 l) 11 _ (omega arith) (h10 .1) in
-    let h12 = cond-zero (breaks12 l) 12 _ (omega arith) (h11 .1) in
-    let h13 = cond-zero (breaks13 l) 13 _ (omega arith) (h12 .1) in
-    let h14 = cond-zero (breaks14 l) 14 _ (omega arith) (h13 .1) in
-    let h15 = cond-zero (breaks15 l) 15 _ (omega arith) (h14 .1) in
-    let h16 = cond-zero (breaks16 n l) 16 _ (omega arith) (h15 .1) in
+    let h10 = cond-zero (holds10 l) 10 _ (omega arith) e in
+    let h11 = cond-zero (holds11 l) 11 _ (omega arith) (h10 .1) in
+    let h12 = cond-zero (holds12 l) 12 _ (omega arith) (h11 .1) in
+    let h13 = cond-zero (holds13 l) 13 _ (omega arith) (h12 .1) in
+    let h14 = cond-zero (holds14 l) 14 _ (omega arith) (h13 .1) in
+    let h15 = cond-zero (holds15 l) 15 _ (omega arith) (h14 .1) in
+    let h16 = cond-zero (holds16 n l) 16 _ (omega arith) (h15 .1) in
     record { c10 = h10 .0; c11 = h11 .0; c12 = h12 .0; c13 = h13 .0; c14 = h14 .0; c15 = h15 .0; c16 = h16 .0 }
 
 pub record Plain (d a b : Operand) : Type 0 where
@@ -145,7 +185,7 @@ pub record Plain (d a b : Operand) : Type 0 where
   pub second : PublicOperand b
 
 pub plain : (n : ℕ) (op : Opcode) (d a b : Operand) (t : Target) → T (correct (mk Unmarked op d a b t)) → markFault n (mk Unmarked op d a b t) ≡ 0 → Plain d a b
-unfolding breaks10 breaks11 breaks12
+unfolding holds10 holds11 holds12
 plain n op d a b t h e =
     let c = clear n (mk Unmarked op d a b t) e in
     let f = correct-fields (mk Unmarked op d a b t) h in
@@ -173,7 +213,7 @@ clean : (must : Bool) (o : Operand) → T (operandRight must o) → T (not (isRe
 clean must o f r s x = record { range = subst (λ (y : Bool). T (operandRight y o)) (is-true must x) f; named = r; based = s }
 
 pub masked : (n : ℕ) (op : Opcode) (d a b : Operand) (t : Target) → T (correct (mk Marked op d a b t)) → markFault n (mk Marked op d a b t) ≡ 0 → Masked op d a b
-unfolding breaks10 breaks11 breaks12 breaks13 breaks14 breaks15
+unfolding holds10 holds11 holds12 holds13 holds14 holds15
 masked n op d a b t h e =
     let c = clear n (mk Marked op d a b t) e in
     let f = correct-fields (mk Marked op d a b t) h in

@@ -5,7 +5,7 @@ use mathlib.Core.Bool.{Bool, true, false, _&&_}
 use mathlib.Core.List.{List, [], _∷_}
 use Prim.Native.Nat.{ℕ}
 use lib.Count.{ones}
-use lib.Dec.{T, lit≤}
+use lib.Dec.{T}
 use lib.ListN.{replicate, set, drop}
 use Rattle.model.specs.declared.Mark.the-variants.{Unmarked}
 use Rattle.model.specs.declared.Opcode.the-variants.{Not, Mov, And, Orr, Xor, Beq}
@@ -18,27 +18,27 @@ use Rattle.model.specs.Text.{sameBytes}
 use Rattle.model.specs.Step.{Row, row, next, after}
 use Rattle.model.specs.Run.{run}
 use Rattle.model.specs.Images.{image}
-use Rattle.model.specs.Expansion.{two, move, load, scale, join, fetch, flip, store, start, expand}
-use Rattle.model.specs.Marks.{markFault, AllRight, Accepted}
+use Rattle.model.specs.Expansion.{markedLine, move, load, scale, combine, fetch, flip, writeBack, start, expand}
+use Rattle.model.specs.Marks.{Accepted}
 
 -- ---- a program with every macro, where the destination is an argument, with a public literal and a target behind a macro
 
 abbrev small : List Line
 small =
     record { mark = Unmarked; opcode = Mov; destination = Register 4; first = Literal 5; second = Empty; target = NoTarget }
-    ∷ two And (Register 16) (Register 16) (Register 17)
-    ∷ two Orr (Register 17) (Register 17) (Register 16)
+    ∷ markedLine And (Register 16) (Register 16) (Register 17)
+    ∷ markedLine Orr (Register 17) (Register 17) (Register 16)
     ∷ record { mark = Unmarked; opcode = Beq; destination = Empty; first = Register 4; second = Literal 5; target = ToLine 5 }
     ∷ move (Register 16) (Literal 0)
-    ∷ two Xor (Register 16) (Register 16) (Register 17)
-    ∷ two Not (Register 16) (Register 16) Empty
+    ∷ markedLine Xor (Register 16) (Register 16) (Register 17)
+    ∷ markedLine Not (Register 16) (Register 16) Empty
     ∷ move (Register 17) (Register 17)
     ∷ []
 
 -- it is accepted, so the claims speak of it
 pub small-accepted : Accepted small
-unfolding Accepted AllRight correct markFault
-small-accepted = (lit≤ tt, (tt, refl, (tt, refl, (tt, refl, (tt, refl, (tt, refl, (tt, refl, (tt, refl, (tt, refl, tt)))))))))
+unfolding Accepted correct
+small-accepted = ((tt, (tt, (tt, (tt, (tt, (tt, (tt, (tt, tt)))))))), refl)
 
 -- bits in r16 and r17
 abbrev bits : ℕ → ℕ → State
@@ -59,5 +59,5 @@ claimed a b =
     sameRows (x .rows) (y .rows) && sameBytes (drop 4 (x .state)) (drop 4 (image (z .state)))
 
 pub small-claimed : T (claimed 0 0 && claimed 0 1 && claimed 1 0 && claimed 1 1)
-unfolding run expand image row next after ones load scale join fetch flip store
+unfolding run expand image row next after ones load scale combine fetch flip writeBack
 small-claimed = tt

@@ -11,7 +11,7 @@ use borrow.Author.Tests.{le-ltb}
 use lib.Dec.{T, ltb, eqb, eqb→eq, eqb-refl, leb→le}
 use lib.ListN.{length, getD}
 use lib.Seq.{ext-getD}
-use Rattle.model.specs.Places.{State, Kind, Fixed, Public, Sensitive, kind}
+use Rattle.model.specs.Places.{State, Kind, Neither, Public, Sensitive, kind}
 use Rattle.model.specs.Code.{code, page}
 use Rattle.model.specs.Images.{Bit, BitState, fixed, imageAt, backAt, image, back, bitRight, imageRight, every, ButScratch}
 use Rattle.model.proofs.TestLaws.{holds, and-both, both-and}
@@ -19,7 +19,7 @@ use Rattle.model.proofs.PlaceLaws.{mapAt-length, mapAt-getD}
 
 -- ---- there and back
 
-back-fixed : (i x : ℕ) → kind i ≡ Fixed → backAt i x ≡ 0
+back-fixed : (i x : ℕ) → kind i ≡ Neither → backAt i x ≡ 0
 unfolding backAt
 back-fixed i x e = rw e
 
@@ -35,7 +35,7 @@ back-public i x e = rw e
 
 back-at : (i x : ℕ) → Bit i x → (k : Kind) → kind i ≡ k → backAt i (imageAt i x) ≡ x
 unfolding Bit imageAt
-back-at i x b Fixed e = back-fixed i (imageAt i x) e ∙ sym (rw e at b)
+back-at i x b Neither e = back-fixed i (imageAt i x) e ∙ sym (rw e at b)
 back-at i x b Public e = rw e (back-public i x e)
 back-at i x b Sensitive e = rw e (back-bit x (rw e at b) i e)
 
@@ -47,7 +47,7 @@ scratch (suc (suc zero)) = inl (omega arith)
 scratch (suc (suc (suc zero))) = inl (omega arith)
 scratch (suc (suc (suc (suc i)))) = inr (λ h. omega arith)
 
-scratch-fixed : (i : ℕ) → (1 ≤ i) × (i ≤ 3) → kind i ≡ Fixed
+scratch-fixed : (i : ℕ) → (1 ≤ i) × (i ≤ 3) → kind i ≡ Neither
 unfolding kind
 scratch-fixed zero h = absurd (not-suc-le-zero (h .0))
 scratch-fixed (suc zero) h = refl
@@ -55,7 +55,7 @@ scratch-fixed (suc (suc zero)) h = refl
 scratch-fixed (suc (suc (suc zero))) h = refl
 scratch-fixed (suc (suc (suc (suc i)))) h = absurd (omega arith)
 
-zero-at : (i x : ℕ) → kind i ≡ Fixed → Bit i x → x ≡ 0
+zero-at : (i x : ℕ) → kind i ≡ Neither → Bit i x → x ≡ 0
 unfolding Bit
 zero-at i x e h = rw e at h
 
@@ -90,7 +90,7 @@ every-at f i (x ∷ l) e (suc n) h =
 
 right-bit : (i x : ℕ) (k : Kind) → kind i ≡ k → T (bitRight i x) → Bit i x
 unfolding bitRight Bit
-right-bit i x Fixed e h = rw e (eqb→eq x 0 (rw e at h))
+right-bit i x Neither e h = rw e (eqb→eq x 0 (rw e at h))
 right-bit i x Public e h = rw e tt
 right-bit i x Sensitive e h = rw e (leb→le x 1 (rw e at h))
 
@@ -126,7 +126,7 @@ fixed-right (suc (suc (suc (suc i)))) = rw (le-ltb (suc (suc (suc (suc i)))) 4 (
 
 image-right-at : (i x : ℕ) → Bit i x → (k : Kind) → kind i ≡ k → T (imageRight i (imageAt i x))
 unfolding Bit imageAt imageRight
-image-right-at i x b Fixed e = rw e (fixed-right i)
+image-right-at i x b Neither e = rw e (fixed-right i)
 image-right-at i x b Public e = rw e tt
 image-right-at i x b Sensitive e = rw e (code-right x (rw e at b))
 

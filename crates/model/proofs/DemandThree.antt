@@ -23,13 +23,13 @@ use Rattle.model.specs.Run.{Ran, run, answer}
 use Rattle.model.specs.Lines.{correct}
 use Rattle.model.specs.Images.{Bit, BitState, SamePublic, ButScratch, image}
 use Rattle.model.specs.Expansion.{partOf, size, start, expand}
-use Rattle.model.specs.Marks.{markFault, AllRight, Accepted}
+use Rattle.model.specs.Marks.{markFault}
 use Rattle.model.specs.Claims.{span, SameRuns, EqualTraces, Correspondence, DemandThree}
 use Rattle.model.proofs.Runs.{stopped, step-run, run-zero, Seen, cut, seen-past}
 use Rattle.model.proofs.Parts.{start-end}
 use Rattle.model.proofs.PlaceLaws.{same-sym, same-sensitive}
 use Rattle.model.proofs.Operands.{sensitive-of}
-use Rattle.model.proofs.Acceptance.{mk, line-at, plain, masked}
+use Rattle.model.proofs.Acceptance.{mk, AllRight, accepted-right, line-at, plain, masked}
 use Rattle.model.proofs.Pieces.{held}
 use Rattle.model.proofs.ImageLaws.{zeros, rails}
 use Rattle.model.proofs.MarkedLines.{Weights, weights, Related, shown-same, macro-size, next-marked, marked-destination}
@@ -208,8 +208,7 @@ module _ (p : List Line) (A : AllRight (length p) p) (k b : ℕ) (s t : State) (
       }
 
 pub equal-traces : EqualTraces
-unfolding Accepted
-equal-traces p A k b s t bs bt h = same-runs p (A .1) k b s t bs bt h
+equal-traces p A k b s t bs bt h = same-runs p (accepted-right p A .right) k b s t bs bt h
 
 -- ---- (b)
 
@@ -225,16 +224,16 @@ but-scratch r x y z = (refl, go)
     go (suc (suc (suc (suc i)))) h n = refl
 
 pub correspondence : Correspondence
-unfolding Accepted
 correspondence p A k n s bs =
-    let S = simulate p (length p) (A .1) n k s (image s) cleared (related-image s bs) in
-    let C = counted-steps p (length p) (A .1) n k s in
-    let R = S .related in
+    let R = accepted-right p A .right in
+    let S = simulate p (length p) R n k s (image s) cleared (related-image s bs) in
+    let C = counted-steps p (length p) R n k s in
+    let E = S .related in
     record {
       steps = S .steps;
       stands = S .stands;
-      holds = subst₂ (λ (v s : State). ButScratch v (image s)) (sym (R .image)) (sym (R .source)) (but-scratch (R .tail) (R .x) (R .y) (R .z));
-      bits = subst BitState (sym (R .source)) (R .bits);
+      holds = subst₂ (λ (v s : State). ButScratch v (image s)) (sym (E .image)) (sym (E .source)) (but-scratch (E .tail) (E .x) (E .y) (E .z));
+      bits = subst BitState (sym (E .source)) (E .bits);
       least = C .least;
       most = C .most;
     }

@@ -18,7 +18,7 @@ use Rattle.model.specs.Step.{weight, distance, alu, row, next, after}
 use Rattle.model.specs.Run.{run, answer}
 use Rattle.model.specs.Code.{code, page, andTable, orrTable, xorTable}
 use Rattle.model.specs.Images.{image}
-use Rattle.model.specs.Expansion.{two, move, load, flip, store, expand}
+use Rattle.model.specs.Expansion.{markedLine, move, load, flip, writeBack, expand}
 use Rattle.model.specs.Programs.{expandPrints, tracePrints}
 use Rattle.model.proofs.Finite.{Pair, pair, agree}
 
@@ -50,16 +50,16 @@ edges-hold = tt
 -- ---- the printed examples: `s,not,r16,r17,,`
 
 abbrev printed : List Line
-printed = two Not (Register 16) (Register 17) Empty ∷ []
+printed = markedLine Not (Register 16) (Register 17) Empty ∷ []
 
 pub printed-lines : expand printed ≡
     move (Register 1) (Register 0)
     ∷ move (Register 1) (Register 17)
-    ∷ two Xor (Register 1) (Register 1) (Literal 3)
+    ∷ markedLine Xor (Register 1) (Register 1) (Literal 3)
     ∷ move (Register 16) (Register 0)
     ∷ move (Register 16) (Register 1)
     ∷ []
-unfolding expand load flip store
+unfolding expand load flip writeBack
 printed-lines = refl
 
 -- the trace from the image of the all-zero state, and `halted,5`
@@ -70,11 +70,11 @@ pub printed-rows : run (expand printed) 1000 0 (image (replicate 544 0)) .rows �
     ∷ (3 ∷ 0 ∷ 1 ∷ 0 ∷ 0 ∷ 0 ∷ [])
     ∷ (4 ∷ 1 ∷ 1 ∷ 0 ∷ 0 ∷ 0 ∷ [])
     ∷ []
-unfolding run expand image row next after ones load flip store
+unfolding run expand image row next after ones load flip writeBack
 printed-rows = refl
 
 pub printed-answer : answer (expand printed) (run (expand printed) 1000 0 (image (replicate 544 0))) ≡ halted 5 5
-unfolding answer run expand image row next after ones load flip store
+unfolding answer run expand image row next after ones load flip writeBack
 printed-answer = refl
 
 -- the line's bytes, and what the two programs print of them, a line of bytes for each
@@ -91,7 +91,7 @@ pub printed-expansion : expandPrints input ≡
     115 ∷ 44 ∷ 120 ∷ 111 ∷ 114 ∷ 44 ∷ 114 ∷ 49 ∷ 44 ∷ 114 ∷ 49 ∷ 44 ∷ 35 ∷ 51 ∷ 44 ∷ 10 ∷
     115 ∷ 44 ∷ 109 ∷ 111 ∷ 118 ∷ 44 ∷ 114 ∷ 49 ∷ 54 ∷ 44 ∷ 114 ∷ 48 ∷ 44 ∷ 44 ∷ 10 ∷
     115 ∷ 44 ∷ 109 ∷ 111 ∷ 118 ∷ 44 ∷ 114 ∷ 49 ∷ 54 ∷ 44 ∷ 114 ∷ 49 ∷ 44 ∷ 44 ∷ 10 ∷ []
-unfolding expandPrints spellMark spellOpcode spellOperand spellTarget operandOf targetOf linesFrom load flip store
+unfolding expandPrints spellMark spellOpcode spellOperand spellTarget operandOf targetOf linesFrom load flip writeBack
 printed-expansion = refl
 
 pub printed-trace : tracePrints input ≡
@@ -101,5 +101,5 @@ pub printed-trace : tracePrints input ≡
     51 ∷ 44 ∷ 48 ∷ 44 ∷ 49 ∷ 44 ∷ 48 ∷ 44 ∷ 48 ∷ 44 ∷ 48 ∷ 10 ∷
     52 ∷ 44 ∷ 49 ∷ 44 ∷ 49 ∷ 44 ∷ 48 ∷ 44 ∷ 48 ∷ 44 ∷ 48 ∷ 10 ∷
     104 ∷ 97 ∷ 108 ∷ 116 ∷ 101 ∷ 100 ∷ 44 ∷ 53 ∷ 10 ∷ []
-unfolding tracePrints spellMark spellOpcode spellOperand spellTarget operandOf targetOf linesFrom load flip store row next after ones
+unfolding tracePrints spellMark spellOpcode spellOperand spellTarget operandOf targetOf linesFrom load flip writeBack row next after ones
 printed-trace = refl

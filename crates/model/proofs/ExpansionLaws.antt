@@ -1,12 +1,12 @@
 -- What the expansion of an accepted program is: correct lines, at most 13 for each source line, whose targets are in it, and a stored
 -- program again. Piece by piece, then by induction over the program. Assumes nothing.
 use mathlib.Core.Path.{_≡_, refl, sym, ap, ap₂, _∙_}
-use mathlib.Core.Bool.{Bool, true, false, not, cond, _&&_}
+use mathlib.Core.Bool.{Bool, true, false, not, _&&_}
 use mathlib.Core.List.{List, [], _∷_, _++_, flatMap}
-use Prim.Native.Nat.{ℕ, zero, suc, _+_, _*_, _≤_}
+use Prim.Native.Nat.{ℕ, zero, suc, _*_, _≤_}
 use native.Mathlib.Omega.{arith}
-use borrow.Author.Tests.{eqb-true, ltb-false, le-ltb}
-use lib.Dec.{T, ltb, leb, eqb, le→leb, nltb→le}
+use borrow.Author.Tests.{le-ltb}
+use lib.Dec.{T, ltb, leb, le→leb, nltb→le}
 use lib.ListN.{length}
 use Rattle.model.specs.declared.Mark.{Mark}
 use Rattle.model.specs.declared.Mark.the-variants.{Unmarked, Marked}
@@ -18,16 +18,16 @@ use Rattle.model.specs.declared.Target.{Target}
 use Rattle.model.specs.declared.Target.the-variants.{Empty as NoTarget, Line as ToLine}
 use Rattle.model.specs.declared.Line.{Line}
 use Rattle.model.specs.Limits.{maxLines, maxAccepted, longest}
-use Rattle.model.specs.Answers.{Report, counted, refused}
-use Rattle.model.specs.Lines.{fills, operandRight, targetRight, isLiteral, correct}
+use Rattle.model.specs.Answers.{Report, counted}
+use Rattle.model.specs.Lines.{fills, operandRight, targetRight, isLiteral, correct, AllCorrect}
 use Rattle.model.specs.Stored.{codes, lineCount, lines, programCheck}
 use Rattle.model.specs.Code.{code, andTable, orrTable, xorTable}
-use Rattle.model.specs.Expansion.{coded, move, load, scale, join, fetch, flip, store, lookup, negate, copy, macro, moved, retarget, partOf, part, size, start, joined, expand}
-use Rattle.model.specs.Marks.{isAbove, breaks10, breaks11, breaks12, breaks13, breaks14, breaks15, breaks16, markFault, firstBad, marksOf, markCheck, AllRight, Accepted}
+use Rattle.model.specs.Expansion.{coded, move, load, scale, combine, fetch, flip, writeBack, lookup, negate, copy, macro, newTarget, retarget, partOf, part, size, start, joined, expand}
+use Rattle.model.specs.Marks.{isAbove, holds10, holds11, holds12, holds13, holds14, holds15, holds16, markFault, marksOf, markCheck, Accepted}
 use Rattle.model.proofs.TestLaws.{and-both, both-and}
 use Rattle.model.proofs.Parts.{joined-length}
-use Rattle.model.proofs.Acceptance.{cond-zero}
-use Rattle.model.proofs.StoredLaws.{AllCorrect, CheckAnswer, accepts, refuses, check-answer, program-checked, counted-count, never-counted, length-lines, whole-lines, whole-check, correct-fields}
+use Rattle.model.proofs.Acceptance.{cond-zero, AllRight, marks-right, accepted-right}
+use Rattle.model.proofs.StoredLaws.{CheckAnswer, accepts, refuses, check-answer, program-checked, never-counted, length-lines, whole-lines, whole-check, correct-fields}
 
 -- ---- the code of a bit, by whether it is 0
 
@@ -44,7 +44,7 @@ code-more (suc n) h = refl
 
 -- the operands do not change a macro's length
 pub macro-length : (o : Opcode) (d a b d′ a′ b′ : Operand) → length (macro o d a b) ≡ length (macro o d′ a′ b′)
-unfolding macro lookup negate copy load scale join fetch flip store
+unfolding macro lookup negate copy load scale combine fetch flip writeBack
 macro-length Nop d a b d′ a′ b′ = refl
 macro-length Jmp d a b d′ a′ b′ = refl
 macro-length Not d a b d′ a′ b′ = refl
@@ -60,7 +60,7 @@ macro-length Beq d a b d′ a′ b′ = refl
 macro-length Bne d a b d′ a′ b′ = refl
 
 macro-most : (o : Opcode) (d a b : Operand) → length (macro o d a b) ≤ longest
-unfolding macro lookup negate copy load scale join fetch flip store
+unfolding macro lookup negate copy load scale combine fetch flip writeBack
 macro-most Nop d a b = omega arith
 macro-most Jmp d a b = omega arith
 macro-most Not d a b = omega arith
@@ -123,9 +123,9 @@ scale-correct : AllCorrect scale
 unfolding scale correct
 scale-correct = (tt, (tt, (tt, tt)))
 
-join-correct : AllCorrect join
-unfolding join correct
-join-correct = (tt, (tt, tt))
+combine-correct : AllCorrect combine
+unfolding combine correct
+combine-correct = (tt, (tt, tt))
 
 fetch-correct : (t : ℕ) → T (ltb t 256) → AllCorrect (fetch t)
 unfolding fetch operandRight isLiteral
@@ -135,27 +135,27 @@ flip-correct : AllCorrect flip
 unfolding flip correct
 flip-correct = (tt, tt)
 
-store-correct : (n : ℕ) (d : Operand) → T (ltb n 32) → T (operandRight true d) → T (not (isLiteral d)) → AllCorrect (store n d)
-unfolding store operandRight
-store-correct n d hn hd nd = (move-correct d (Register 0) hd nd tt, (move-correct d (Register n) hd nd hn, tt))
+write-back-correct : (n : ℕ) (d : Operand) → T (ltb n 32) → T (operandRight true d) → T (not (isLiteral d)) → AllCorrect (writeBack n d)
+unfolding writeBack operandRight
+write-back-correct n d hn hd nd = (move-correct d (Register 0) hd nd tt, (move-correct d (Register n) hd nd hn, tt))
 
 module _ (d a : Operand) (hd : T (operandRight true d)) (nd : T (not (isLiteral d))) (ha : T (operandRight true a)) where
   lookup-correct : (t : ℕ) (b : Operand) → T (operandRight true b) → T (ltb t 256) → AllCorrect (lookup t d a b)
   unfolding lookup
   lookup-correct t b hb ht =
-      let last : List Line = fetch t ++ store 3 d in
-      let later : List Line = load 2 b ++ (join ++ last) in
+      let last : List Line = fetch t ++ writeBack 3 d in
+      let later : List Line = load 2 b ++ (combine ++ last) in
       append-correct (load 1 a) (scale ++ later) (load-correct 1 a tt ha) (append-correct scale later scale-correct
-      (append-correct (load 2 b) (join ++ last) (load-correct 2 b tt hb) (append-correct join last join-correct
-      (append-correct (fetch t) (store 3 d) (fetch-correct t ht) (store-correct 3 d tt hd nd)))))
+      (append-correct (load 2 b) (combine ++ last) (load-correct 2 b tt hb) (append-correct combine last combine-correct
+      (append-correct (fetch t) (writeBack 3 d) (fetch-correct t ht) (write-back-correct 3 d tt hd nd)))))
 
   negate-correct : AllCorrect (negate d a)
   unfolding negate
-  negate-correct = append-correct (load 1 a) (flip ++ store 1 d) (load-correct 1 a tt ha) (append-correct flip (store 1 d) flip-correct (store-correct 1 d tt hd nd))
+  negate-correct = append-correct (load 1 a) (flip ++ writeBack 1 d) (load-correct 1 a tt ha) (append-correct flip (writeBack 1 d) flip-correct (write-back-correct 1 d tt hd nd))
 
   copy-correct : AllCorrect (copy d a)
   unfolding copy
-  copy-correct = append-correct (load 3 a) (store 3 d) (load-correct 3 a tt ha) (store-correct 3 d tt hd nd)
+  copy-correct = append-correct (load 3 a) (writeBack 3 d) (load-correct 3 a tt ha) (write-back-correct 3 d tt hd nd)
 
 macro-correct : (o : Opcode) (d a b : Operand) → T (operandRight (fills o .destination) d) → T (not (isLiteral d)) → T (operandRight (fills o .first) a) → T (operandRight (fills o .second) b)
     → AllCorrect (macro o d a b)
@@ -190,8 +190,8 @@ coded-right must (SensitiveCell r k) h = h
 coded-right must (TableCell r k) h = h
 
 module _ (starts : ℕ → ℕ) (few : (k : ℕ) → starts k ≤ maxLines) where
-  moved-right : (must : Bool) (t : Target) → T (targetRight must t) → T (targetRight must (moved starts t))
-  unfolding targetRight moved
+  moved-right : (must : Bool) (t : Target) → T (targetRight must t) → T (targetRight must (newTarget starts t))
+  unfolding targetRight newTarget
   moved-right must NoTarget h = h
   moved-right must (ToLine t) h = both-and must (leb (starts t) maxLines) (and-both must (leb t maxLines) h .0) (le→leb (starts t) maxLines (few t))
 
@@ -202,7 +202,7 @@ module _ (starts : ℕ → ℕ) (few : (k : ℕ) → starts k ≤ maxLines) wher
       operandRight (fills (l .opcode) .destination) (l .destination) && not (isLiteral (l .destination))
       && operandRight (fills (l .opcode) .first) (l .first) && operandRight (fills (l .opcode) .second) (l .second) in
       let w = and-both before (targetRight (fills (l .opcode) .target) (l .target)) h in
-      both-and before (targetRight (fills (l .opcode) .target) (moved starts (l .target))) (w .0) (moved-right (fills (l .opcode) .target) (l .target) (w .1))
+      both-and before (targetRight (fills (l .opcode) .target) (newTarget starts (l .target))) (w .0) (moved-right (fills (l .opcode) .target) (l .target) (w .1))
 
   part-correct : (l : Line) → T (correct l) → AllCorrect (part starts l)
   unfolding partOf
@@ -223,12 +223,11 @@ module _ (starts : ℕ → ℕ) (few : (k : ℕ) → starts k ≤ maxLines) wher
 -- the expansion of an accepted program, as a stored program
 module _ (p : List Line) (A : Accepted p) where
   pub expansion-most : length (expand p) ≤ longest * maxAccepted
-  unfolding Accepted
-  expansion-most = omega (arith, expand-length p (length p) refl, start-bound p (length p), A .0)
+  expansion-most = omega (arith, expand-length p (length p) refl, start-bound p (length p), accepted-right p A .few)
 
   pub expansion-correct : AllCorrect (expand p)
-  unfolding Accepted expand
-  expansion-correct = joined-correct (start p) (λ k. omega (arith, start-bound p k, A .0)) (length p) p (A .1)
+  unfolding expand
+  expansion-correct = joined-correct (start p) (λ k. omega (arith, start-bound p k, accepted-right p A .few)) (length p) p (accepted-right p A .right)
 
   pub expansion-check : programCheck (flatMap codes (expand p)) ≡ counted (length (expand p))
   expansion-check = whole-check (expand p) expansion-correct (omega (arith, expansion-most))
@@ -257,7 +256,7 @@ allFree [] = true
 allFree (l ∷ ls) = isFree (l .target) && allFree ls
 
 macro-free : (o : Opcode) (d a b : Operand) → T (allFree (macro o d a b))
-unfolding macro lookup negate copy load scale join fetch flip store isFree allFree
+unfolding macro lookup negate copy load scale combine fetch flip writeBack isFree allFree
 macro-free Nop d a b = tt
 macro-free Jmp d a b = tt
 macro-free Not d a b = tt
@@ -283,8 +282,8 @@ all-within n [] h = tt
 all-within n (l ∷ ls) h = let w = and-both (isFree (l .target)) (allFree ls) h in (free-within n (l .target) (w .0), all-within n ls (w .1))
 
 module _ (starts : ℕ → ℕ) (n : ℕ) (few : (k : ℕ) → starts k ≤ n) where
-  moved-within : (t : Target) → T (not (isAbove n (moved starts t)))
-  unfolding isAbove moved
+  moved-within : (t : Target) → T (not (isAbove n (newTarget starts t)))
+  unfolding isAbove newTarget
   moved-within NoTarget = tt
   moved-within (ToLine t) = rw (le-ltb n (starts t) (few t)) tt
 
@@ -305,19 +304,19 @@ expansion-within p = joined-within (start p) (length (expand p)) (λ k. omega (a
 -- ---- starts that agree up to the line count give the same expansion
 
 none-above : (n : ℕ) (l : Line) → markFault n l ≡ 0 → T (not (isAbove n (l .target)))
-unfolding markFault breaks16
+unfolding markFault holds16
 none-above n l e =
-    let h10 = cond-zero (breaks10 l) 10 _ (omega arith) e in
-    let h11 = cond-zero (breaks11 l) 11 _ (omega arith) (h10 .1) in
-    let h12 = cond-zero (breaks12 l) 12 _ (omega arith) (h11 .1) in
-    let h13 = cond-zero (breaks13 l) 13 _ (omega arith) (h12 .1) in
-    let h14 = cond-zero (breaks14 l) 14 _ (omega arith) (h13 .1) in
-    let h15 = cond-zero (breaks15 l) 15 _ (omega arith) (h14 .1) in
-    cond-zero (breaks16 n l) 16 0 (omega arith) (h15 .1) .0
+    let h10 = cond-zero (holds10 l) 10 _ (omega arith) e in
+    let h11 = cond-zero (holds11 l) 11 _ (omega arith) (h10 .1) in
+    let h12 = cond-zero (holds12 l) 12 _ (omega arith) (h11 .1) in
+    let h13 = cond-zero (holds13 l) 13 _ (omega arith) (h12 .1) in
+    let h14 = cond-zero (holds14 l) 14 _ (omega arith) (h13 .1) in
+    let h15 = cond-zero (holds15 l) 15 _ (omega arith) (h14 .1) in
+    cond-zero (holds16 n l) 16 0 (omega arith) (h15 .1) .0
 
 module _ (f g : ℕ → ℕ) (n : ℕ) (same : (k : ℕ) → k ≤ n → f k ≡ g k) where
-  moved-same : (t : Target) → T (not (isAbove n t)) → moved f t ≡ moved g t
-  unfolding moved isAbove
+  moved-same : (t : Target) → T (not (isAbove n t)) → newTarget f t ≡ newTarget g t
+  unfolding newTarget isAbove
   moved-same NoTarget h = refl
   moved-same (ToLine t) h = ap ToLine (same t (nltb→le n t h))
 
@@ -336,28 +335,11 @@ module _ (f g : ℕ → ℕ) (n : ℕ) (same : (k : ℕ) → k ≤ n → f k ≡
 
 -- ---- a stored program that passes the mark check is accepted
 
-if-passed : (t : Bool) (a : Report) (k i n : ℕ) → cond t a (refused k i) ≡ counted n → (t ≡ true) × (a ≡ counted n)
-if-passed true a k i n e = (refl, e)
-if-passed false a k i n e = absurd (never-counted e)
-
-unless-passed : (t : Bool) (a : Report) (k i n : ℕ) → cond t (refused k i) a ≡ counted n → (t ≡ false) × (a ≡ counted n)
-unless-passed true a k i n e = absurd (never-counted e)
-unless-passed false a k i n e = (refl, e)
-
-right-from : (n i m : ℕ) (p : List Line) → AllCorrect p → firstBad n i p ≡ counted m → AllRight n p × (m ≡ n)
-unfolding firstBad AllRight
-right-from n i m [] h e = (tt, sym (counted-count e))
-right-from n i m (l ∷ p) h e =
-    let w = if-passed (eqb (markFault n l) 0) (firstBad n (i + 1) p) (markFault n l) i m e in
-    let r = right-from n (i + 1) m p (h .1) (w .1) in
-    ((h .0, eqb-true (markFault n l) 0 (w .0), r .0), r .1)
-
 marks-passed : (p : List Line) (n : ℕ) → AllCorrect p → marksOf p ≡ counted n → Accepted p × (n ≡ length p)
-unfolding marksOf Accepted
+unfolding Accepted
 marks-passed p n h e =
-    let w = unless-passed (ltb maxAccepted (length p)) (firstBad (length p) 0 p) 9 0 n e in
-    let r = right-from (length p) 0 n p h (w .1) in
-    ((ltb-false maxAccepted (length p) (w .0), r .0), r .1)
+    let q : n ≡ length p = marks-right p n h e .count in
+    ((h, e ∙ ap counted q), q)
 
 pub mark-checked : (p : List ℕ) (n : ℕ) → markCheck p ≡ counted n → Accepted (lines p) × (n ≡ lineCount p)
 unfolding markCheck

@@ -18,7 +18,7 @@ use Rattle.model.specs.Run.{Ran}
 use Rattle.model.specs.Lines.{fills}
 use Rattle.model.specs.Code.{code}
 use Rattle.model.specs.Images.{BitState, imageAt, SamePublic}
-use Rattle.model.specs.Expansion.{coded, load, scale, join, fetch, flip, store, lookup, negate, copy, macro}
+use Rattle.model.specs.Expansion.{coded, load, scale, combine, fetch, flip, writeBack, lookup, negate, copy, macro}
 use Rattle.model.specs.Marks.{hasMacro}
 use Rattle.model.proofs.Runs.{ran}
 use Rattle.model.proofs.Straight.{exec, exec-then, Straight, straight-append}
@@ -26,7 +26,7 @@ use Rattle.model.proofs.PlaceLaws.{mapAt-getD, bits-set}
 use Rattle.model.proofs.Operands.{SensitivePlace, steady-place, address-same}
 use Rattle.model.proofs.Acceptance.{mk, Masked, MaskedArgument}
 use Rattle.model.proofs.Finite.{tableAt, tableOp, tableWeight, low, scaled, joinedIndex, flipped, slot, code-weight, low-weight, flipped-weight, flipped-code, not-bit, index-weight, slot-low, slot-holds, table-bit}
-use Rattle.model.proofs.Pieces.{held, plus4, r1, r2, r3, scaleEnd, scaleShown, scale-shown, joinEnd, joinShown, join-shown, flipEnd, flipShown, flip-shown, fetchEnd, fetchShown, fetch-shown, storeShown, store-shown}
+use Rattle.model.proofs.Pieces.{held, plus4, r1, r2, r3, scaleEnd, scaleShown, scale-shown, combineEnd, combineShown, combine-shown, flipEnd, flipShown, flip-shown, fetchEnd, fetchShown, fetch-shown, writeBackShown, write-back-shown}
 use Rattle.model.proofs.ImageLaws.{zeros, rails, tail-length, Found, found, image-page, sensitive-bit, write-sensitive}
 use Rattle.model.proofs.Loads.{loadEnd, loadShown, loaded, load-same, load-size, load-straight}
 
@@ -55,28 +55,28 @@ pub record Related (s v : State) (w : Weights) : Type 0 where
 -- ---- what is shown
 
 unfoldable pub copyShown : Operand → ℕ → ℕ → State → ℕ → List Row
-copyShown a k z s w = loadShown a k z s ++ storeShown (loadEnd a k) w
+copyShown a k z s w = loadShown a k z s ++ writeBackShown (loadEnd a k) w
 
 unfoldable pub negateShown : Operand → ℕ → ℕ → State → ℕ → List Row
-negateShown a k x s w = loadShown a k x s ++ (flipShown (loadEnd a k) ++ storeShown (flipEnd (loadEnd a k)) w)
+negateShown a k x s w = loadShown a k x s ++ (flipShown (loadEnd a k) ++ writeBackShown (flipEnd (loadEnd a k)) w)
 
 -- where the second load, the join, the fetch and the store begin
 abbrev secondAt : Operand → ℕ → ℕ
 secondAt a k = scaleEnd (loadEnd a k)
 
-abbrev joinAt : Operand → Operand → ℕ → ℕ
-joinAt a b k = loadEnd b (secondAt a k)
+abbrev combineAt : Operand → Operand → ℕ → ℕ
+combineAt a b k = loadEnd b (secondAt a k)
 
 abbrev fetchAt : Operand → Operand → ℕ → ℕ
-fetchAt a b k = joinEnd (joinAt a b k)
+fetchAt a b k = combineEnd (combineAt a b k)
 
-abbrev storeAt : Operand → Operand → ℕ → ℕ
-storeAt a b k = fetchEnd (fetchAt a b k)
+abbrev writeBackAt : Operand → Operand → ℕ → ℕ
+writeBackAt a b k = fetchEnd (fetchAt a b k)
 
 unfoldable pub lookupShown : Operand → Operand → ℕ → Weights → State → ℕ → ℕ → List Row
 lookupShown a b k e s n w =
     loadShown a k (e .one) s ++ (scaleShown (loadEnd a k) ++ (loadShown b (secondAt a k) (e .two) s
-    ++ (joinShown (joinAt a b k) ++ (fetchShown (fetchAt a b k) (e .three) n ++ storeShown (storeAt a b k) w))))
+    ++ (combineShown (combineAt a b k) ++ (fetchShown (fetchAt a b k) (e .three) n ++ writeBackShown (writeBackAt a b k) w))))
 
 -- the rows of a marked line's part that begins at k
 unfoldable pub shown : Opcode → Operand → Operand → Operand → ℕ → State → Weights → List Row
@@ -152,9 +152,9 @@ module _ (r : List ℕ) (bits : BitState (zeros r)) where
         let c = argument Marked a (zeros r) in
         let w3 = ap (λ (n : ℕ). loadShown a k n (zeros r)) wz in
         done d D c c _ x y (code c) _ _ (A .bit) refl
-        (exec-then (load 3 (coded a)) (store 3 d) k (held x y z (rails r))
+        (exec-then (load 3 (coded a)) (writeBack 3 d) k (held x y z (rails r))
         (A .loads r3 k x y z ∙ ap (ran (loadEnd a k) (held x y (code c) (rails r))) w3)
-        (store-shown r3 d c (getD r (D .at) 0) (A .bit) (D .bit) (loadEnd a k) x y (code c) (rails r) (D .at) (address d (zeros r)) refl (D .holds) (D .destination)))
+        (write-back-shown r3 d c (getD r (D .at) 0) (A .bit) (D .bit) (loadEnd a k) x y (code c) (rails r) (D .at) (address d (zeros r)) refl (D .holds) (D .destination)))
         wx wy (code-weight c (A .bit))
 
     negate-done : (a b : Operand) → MaskedArgument a
@@ -168,11 +168,11 @@ module _ (r : List ℕ) (bits : BitState (zeros r)) where
         let c = alu Marked Not n 0 in
         let w1 = ap (λ (n : ℕ). loadShown a k n (zeros r)) wx in
         done d D c (alu Marked Not n (argument Marked b (zeros r))) _ (flipped (code n)) y z _ _ (not-bit n (A .bit)) refl
-        (exec-then (load 1 (coded a)) (flip ++ store 1 d) k (held x y z (rails r))
+        (exec-then (load 1 (coded a)) (flip ++ writeBack 1 d) k (held x y z (rails r))
         (A .loads r1 k x y z ∙ ap (ran (loadEnd a k) (held (code n) y z (rails r))) w1)
-        (exec-then flip (store 1 d) (loadEnd a k) (held (code n) y z (rails r))
+        (exec-then flip (writeBack 1 d) (loadEnd a k) (held (code n) y z (rails r))
         (flip-shown n (A .bit) (loadEnd a k) y z (rails r))
-        (store-shown r1 d c (getD r (D .at) 0) (not-bit n (A .bit)) (D .bit) (flipEnd (loadEnd a k)) (flipped (code n)) y z (rails r) (D .at) (address d (zeros r))
+        (write-back-shown r1 d c (getD r (D .at) 0) (not-bit n (A .bit)) (D .bit) (flipEnd (loadEnd a k)) (flipped (code n)) y z (rails r) (D .at) (address d (zeros r))
         (flipped-code n (A .bit)) (D .holds) (D .destination))))
         (flipped-weight n (A .bit)) wy wz
 
@@ -199,17 +199,17 @@ module _ (r : List ℕ) (bits : BitState (zeros r)) where
         let w1 = ap (λ (n : ℕ). loadShown a k n (zeros r)) wx in
         let w2 = ap (λ (n : ℕ). loadShown b (secondAt a k) n (zeros r)) wy in
         done d D c c _ i (low (code n)) (code c) _ _ hc refl
-        (exec-then (load 1 (coded a)) (scale ++ (load 2 (coded b) ++ (join ++ (fetch t ++ store 3 d)))) k (held x y z (rails r))
+        (exec-then (load 1 (coded a)) (scale ++ (load 2 (coded b) ++ (combine ++ (fetch t ++ writeBack 3 d)))) k (held x y z (rails r))
         (A .loads r1 k x y z ∙ ap (ran (loadEnd a k) (held (code m) y z (rails r))) w1)
-        (exec-then scale (load 2 (coded b) ++ (join ++ (fetch t ++ store 3 d))) (loadEnd a k) (held (code m) y z (rails r))
+        (exec-then scale (load 2 (coded b) ++ (combine ++ (fetch t ++ writeBack 3 d))) (loadEnd a k) (held (code m) y z (rails r))
         (scale-shown m (A .bit) (loadEnd a k) y z (rails r))
-        (exec-then (load 2 (coded b)) (join ++ (fetch t ++ store 3 d)) (secondAt a k) (held (scaled (code m)) y z (rails r))
-        (B .loads r2 (secondAt a k) (scaled (code m)) y z ∙ ap (ran (joinAt a b k) (held (scaled (code m)) (code n) z (rails r))) w2)
-        (exec-then join (fetch t ++ store 3 d) (joinAt a b k) (held (scaled (code m)) (code n) z (rails r))
-        (join-shown m n (A .bit) (B .bit) (joinAt a b k) z (rails r))
-        (exec-then (fetch t) (store 3 d) (fetchAt a b k) (held i (low (code n)) z (rails r))
+        (exec-then (load 2 (coded b)) (combine ++ (fetch t ++ writeBack 3 d)) (secondAt a k) (held (scaled (code m)) y z (rails r))
+        (B .loads r2 (secondAt a k) (scaled (code m)) y z ∙ ap (ran (combineAt a b k) (held (scaled (code m)) (code n) z (rails r))) w2)
+        (exec-then combine (fetch t ++ writeBack 3 d) (combineAt a b k) (held (scaled (code m)) (code n) z (rails r))
+        (combine-shown m n (A .bit) (B .bit) (combineAt a b k) z (rails r))
+        (exec-then (fetch t) (writeBack 3 d) (fetchAt a b k) (held i (low (code n)) z (rails r))
         (fetch-shown o m n c ho (A .bit) (B .bit) hc (fetchAt a b k) (low (code n)) z (w .three) (rails r) at wz points holds)
-        (store-shown r3 d c (getD r (D .at) 0) hc (D .bit) (storeAt a b k) i (low (code n)) (code c) (rails r) (D .at) (address d (zeros r)) refl (D .holds) (D .destination)))))))
+        (write-back-shown r3 d c (getD r (D .at) 0) hc (D .bit) (writeBackAt a b k) i (low (code n)) (code c) (rails r) (D .at) (address d (zeros r)) refl (D .holds) (D .destination)))))))
         (index-weight o m n ho (A .bit) (B .bit)) (low-weight n (B .bit)) (code-weight c hc)
 
   pub macro-done : (op : Opcode) (d a b : Operand) → Masked op d a b → (k x y z : ℕ) (w : Weights) → weight x ≡ w .one → weight y ≡ w .two → weight z ≡ w .three
@@ -257,8 +257,8 @@ module _ (s t : State) (h : SamePublic s t) where
 
 -- ---- a macro is straight, and has at least one line and at most `longest`
 
-piece-straight : (t n : ℕ) (d : Operand) → (Straight scale × Straight join) × (Straight (fetch t) × (Straight flip × Straight (store n d)))
-unfolding scale join fetch flip store next taken
+piece-straight : (t n : ℕ) (d : Operand) → (Straight scale × Straight combine) × (Straight (fetch t) × (Straight flip × Straight (writeBack n d)))
+unfolding scale combine fetch flip writeBack next taken
 piece-straight t n d = (
   (((λ k s. refl), ((λ k s. refl), ((λ k s. refl), tt))), ((λ k s. refl), ((λ k s. refl), tt))),
   (((λ k s. refl), ((λ k s. refl), tt)), (((λ k s. refl), tt), ((λ k s. refl), ((λ k s. refl), tt)))),
@@ -268,11 +268,11 @@ lookup-straight : (t : ℕ) (d a b : Operand) → Straight (lookup t d a b)
 unfolding lookup
 lookup-straight t d a b =
     let P = piece-straight t 3 d in
-    straight-append (load 1 a) (scale ++ (load 2 b ++ (join ++ (fetch t ++ store 3 d)))) (load-straight 1 a)
-    (straight-append scale (load 2 b ++ (join ++ (fetch t ++ store 3 d))) (P .0 .0)
-    (straight-append (load 2 b) (join ++ (fetch t ++ store 3 d)) (load-straight 2 b)
-    (straight-append join (fetch t ++ store 3 d) (P .0 .1)
-    (straight-append (fetch t) (store 3 d) (P .1 .0) (P .1 .1 .1)))))
+    straight-append (load 1 a) (scale ++ (load 2 b ++ (combine ++ (fetch t ++ writeBack 3 d)))) (load-straight 1 a)
+    (straight-append scale (load 2 b ++ (combine ++ (fetch t ++ writeBack 3 d))) (P .0 .0)
+    (straight-append (load 2 b) (combine ++ (fetch t ++ writeBack 3 d)) (load-straight 2 b)
+    (straight-append combine (fetch t ++ writeBack 3 d) (P .0 .1)
+    (straight-append (fetch t) (writeBack 3 d) (P .1 .0) (P .1 .1 .1)))))
 
 pub macro-straight : (op : Opcode) (d a b : Operand) → Straight (macro op d a b)
 unfolding macro negate copy
@@ -280,8 +280,8 @@ macro-straight Nop d a b = tt
 macro-straight Jmp d a b = tt
 macro-straight Not d a b =
     let P = piece-straight 0 1 d in
-    straight-append (load 1 a) (flip ++ store 1 d) (load-straight 1 a) (straight-append flip (store 1 d) (P .1 .1 .0) (P .1 .1 .1))
-macro-straight Mov d a b = straight-append (load 3 a) (store 3 d) (load-straight 3 a) (piece-straight 0 3 d .1 .1 .1)
+    straight-append (load 1 a) (flip ++ writeBack 1 d) (load-straight 1 a) (straight-append flip (writeBack 1 d) (P .1 .1 .0) (P .1 .1 .1))
+macro-straight Mov d a b = straight-append (load 3 a) (writeBack 3 d) (load-straight 3 a) (piece-straight 0 3 d .1 .1 .1)
 macro-straight And d a b = lookup-straight (tableAt 0) d a b
 macro-straight Orr d a b = lookup-straight (tableAt 1) d a b
 macro-straight Xor d a b = lookup-straight (tableAt 2) d a b
@@ -293,17 +293,17 @@ macro-straight Beq d a b = tt
 macro-straight Bne d a b = tt
 
 lookup-size : (t : ℕ) (d a b : Operand) → (1 ≤ length (lookup t d a b)) × (length (lookup t d a b) ≤ longest)
-unfolding lookup scale join fetch store
+unfolding lookup scale combine fetch writeBack
 lookup-size t d a b =
-    rw (length-append (load 1 a) (scale ++ (load 2 b ++ (join ++ (fetch t ++ store 3 d)))), length-append (load 2 b) (join ++ (fetch t ++ store 3 d)))
+    rw (length-append (load 1 a) (scale ++ (load 2 b ++ (combine ++ (fetch t ++ writeBack 3 d)))), length-append (load 2 b) (combine ++ (fetch t ++ writeBack 3 d)))
     (omega (arith, load-size 1 a, load-size 2 b))
 
 pub macro-size : (op : Opcode) (d a b : Operand) → T (hasMacro op) → (1 ≤ length (macro op d a b)) × (length (macro op d a b) ≤ longest)
-unfolding macro hasMacro negate copy flip store
+unfolding macro hasMacro negate copy flip writeBack
 macro-size Nop d a b h = absurd h
 macro-size Jmp d a b h = absurd h
-macro-size Not d a b h = rw (length-append (load 1 a) (flip ++ store 1 d)) (omega (arith, load-size 1 a))
-macro-size Mov d a b h = rw (length-append (load 3 a) (store 3 d)) (omega (arith, load-size 3 a))
+macro-size Not d a b h = rw (length-append (load 1 a) (flip ++ writeBack 1 d)) (omega (arith, load-size 1 a))
+macro-size Mov d a b h = rw (length-append (load 3 a) (writeBack 3 d)) (omega (arith, load-size 3 a))
 macro-size And d a b h = lookup-size (tableAt 0) d a b
 macro-size Orr d a b h = lookup-size (tableAt 1) d a b
 macro-size Xor d a b h = lookup-size (tableAt 2) d a b

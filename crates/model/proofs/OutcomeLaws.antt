@@ -12,10 +12,10 @@ use Rattle.model.specs.Limits.{stateSize, rowWidth}
 use Rattle.model.specs.Answers.{Report, done, refused, counted, Outcome, outcome, unlessRefused, atFront}
 use Rattle.model.specs.Places.{State}
 use Rattle.model.specs.Stored.{lines, lineCount, codes, programCheck}
-use Rattle.model.specs.Run.{run, answer, leaves, runOutcome}
+use Rattle.model.specs.Run.{run, answer, runLeaves, runOutcome}
 use Rattle.model.specs.Images.{BitState, image, every, bitRight, carried}
-use Rattle.model.specs.Expansion.{expand}
-use Rattle.model.specs.Marks.{markCheck, expandOutcome}
+use Rattle.model.specs.Expansion.{expand, expandOutcome}
+use Rattle.model.specs.Marks.{markCheck}
 use Rattle.model.proofs.BackLaws.{bits-right}
 
 -- ---- one step back
@@ -89,11 +89,11 @@ pub record RunDone (p : List ℕ) (k b : ℕ) (s : State) (t : List ℕ) (vs : L
 
 pub run-done : (p : List ℕ) (k b : ℕ) (s : State) (t vs : List ℕ) (s′ : State) (t′ : List ℕ)
     → runOutcome p k b s t ≡ outcome (done vs) (s′ ∷ t′ ∷ []) → RunDone p k b s t vs s′ t′
-unfolding runOutcome leaves
+unfolding runOutcome runLeaves
 run-done p k b s t vs s′ t′ e =
     let w = went (programCheck p) _ (s ∷ t ∷ []) e in
     let w1 = passed-if (eqb (length s) stateSize) _ 18 0 (s ∷ t ∷ []) (w .then) in
-    let w2 = passed-unless (ltb (length t) (rowWidth * b)) (leaves (lines p) (run (lines p) b k s) t) 20 0 (s ∷ t ∷ []) (w1 .then) in
+    let w2 = passed-unless (ltb (length t) (rowWidth * b)) (runLeaves (lines p) (run (lines p) b k s) t) 20 0 (s ∷ t ∷ []) (w1 .then) in
     record {
       values = w .values;
       checked = w .check;

@@ -11,7 +11,7 @@ use Rattle.model.specs.declared.Operand.{Operand}
 use Rattle.model.specs.Places.{State, place, address, value}
 use Rattle.model.specs.Step.{Row, row, after, result, argument, alu, weight, distance}
 use Rattle.model.specs.Code.{code}
-use Rattle.model.specs.Expansion.{load, scale, join, fetch, flip, store}
+use Rattle.model.specs.Expansion.{load, scale, combine, fetch, flip, writeBack}
 use Rattle.model.proofs.Runs.{ran}
 use Rattle.model.proofs.Straight.{exec}
 use Rattle.model.proofs.Finite.{low, twice, scaled, joinedIndex, flipped, slot, tableAt, tableWeight, code-weight, code-loaded, code-cleared, low-weight, low-distance, twice-weight, twice-distance, scaled-weight, scaled-distance, flipped-weight, flipped-distance, index-weight, index-distance, slot-weight}
@@ -84,22 +84,22 @@ unfolding scaleShown ones
 scale-shown a h k y z r =
     scale-exec k (code a) y z r ∙ rw (low-weight a h, low-distance a h, twice-weight a h, twice-distance a h, scaled-weight a h, scaled-distance a h)
 
-abbrev pub joinEnd : ℕ → ℕ
-joinEnd k = suc (suc k)
+abbrev pub combineEnd : ℕ → ℕ
+combineEnd k = suc (suc k)
 
-unfoldable pub joinShown : ℕ → List Row
-joinShown k = six k 1 0 0 0 0 ∷ six (suc k) 2 1 0 0 0 ∷ []
+unfoldable pub combineShown : ℕ → List Row
+combineShown k = six k 1 0 0 0 0 ∷ six (suc k) 2 1 0 0 0 ∷ []
 
-join-exec : (k x y z : ℕ) (r : List ℕ) → exec join k (held x y z r) ≡ ran (joinEnd k) (held (bitOr x (low y)) (low y) z r)
+combine-exec : (k x y z : ℕ) (r : List ℕ) → exec combine k (held x y z r) ≡ ran (combineEnd k) (held (bitOr x (low y)) (low y) z r)
     (shows k (low y) y 0 0 0 ∷ shows (suc k) (bitOr x (low y)) x 0 0 0 ∷ [])
-unfolding join exec row after result alu argument value place address
-join-exec k x y z r = refl
+unfolding combine exec row after result alu argument value place address
+combine-exec k x y z r = refl
 
-pub join-shown : (a b : ℕ) → a < 2 → b < 2 → (k z : ℕ) (r : List ℕ)
-    → exec join k (held (scaled (code a)) (code b) z r) ≡ ran (joinEnd k) (held (joinedIndex (code a) (code b)) (low (code b)) z r) (joinShown k)
-unfolding joinShown ones
-join-shown a b ha hb k z r =
-    join-exec k (scaled (code a)) (code b) z r
+pub combine-shown : (a b : ℕ) → a < 2 → b < 2 → (k z : ℕ) (r : List ℕ)
+    → exec combine k (held (scaled (code a)) (code b) z r) ≡ ran (combineEnd k) (held (joinedIndex (code a) (code b)) (low (code b)) z r) (combineShown k)
+unfolding combineShown ones
+combine-shown a b ha hb k z r =
+    combine-exec k (scaled (code a)) (code b) z r
     ∙ rw (low-weight b hb, low-distance b hb, index-weight 0 a b (lib.Dec.lit< tt) ha hb, index-distance 0 a b (lib.Dec.lit< tt) ha hb)
 
 abbrev pub flipEnd : ℕ → ℕ
@@ -147,23 +147,23 @@ pub record Destination (d : Operand) (r : List ℕ) (q w : ℕ) : Type 0 where
   pub namesCleared : (x y z : ℕ) → place d (held x y z (set r q 0)) ≡ plus4 q
   pub standsCleared : (x y z : ℕ) → address d (held x y z (set r q 0)) ≡ w
 
-abbrev pub storeEnd : ℕ → ℕ
-storeEnd k = suc (suc k)
+abbrev pub writeBackEnd : ℕ → ℕ
+writeBackEnd k = suc (suc k)
 
-unfoldable pub storeShown : ℕ → ℕ → List Row
-storeShown k w = six k 0 1 0 0 w ∷ six (suc k) 1 1 0 0 w ∷ []
+unfoldable pub writeBackShown : ℕ → ℕ → List Row
+writeBackShown k w = six k 0 1 0 0 w ∷ six (suc k) 1 1 0 0 w ∷ []
 
-store-exec : {n : ℕ} (S : Scratch n) (d : Operand) (k x y z : ℕ) (r : List ℕ) (q w : ℕ) → Destination d r q w
-    → exec (store n d) k (held x y z r) ≡ ran (storeEnd k) (held x y z (set r q (got S x y z)))
+write-back-exec : {n : ℕ} (S : Scratch n) (d : Operand) (k x y z : ℕ) (r : List ℕ) (q w : ℕ) → Destination d r q w
+    → exec (writeBack n d) k (held x y z r) ≡ ran (writeBackEnd k) (held x y z (set r q (got S x y z)))
     (shows k 0 (getD r q 0) 0 0 w ∷ shows (suc k) (got S x y z) 0 0 0 w ∷ [])
-unfolding store exec row after result alu argument value place address
-store-exec r1 d k x y z r q w D = simp (D .names, D .stands, D .namesCleared, D .standsCleared, getD-set-same r q 0 0 (D .within), set-set r q 0 x)
-store-exec r2 d k x y z r q w D = simp (D .names, D .stands, D .namesCleared, D .standsCleared, getD-set-same r q 0 0 (D .within), set-set r q 0 y)
-store-exec r3 d k x y z r q w D = simp (D .names, D .stands, D .namesCleared, D .standsCleared, getD-set-same r q 0 0 (D .within), set-set r q 0 z)
+unfolding writeBack exec row after result alu argument value place address
+write-back-exec r1 d k x y z r q w D = simp (D .names, D .stands, D .namesCleared, D .standsCleared, getD-set-same r q 0 0 (D .within), set-set r q 0 x)
+write-back-exec r2 d k x y z r q w D = simp (D .names, D .stands, D .namesCleared, D .standsCleared, getD-set-same r q 0 0 (D .within), set-set r q 0 y)
+write-back-exec r3 d k x y z r q w D = simp (D .names, D .stands, D .namesCleared, D .standsCleared, getD-set-same r q 0 0 (D .within), set-set r q 0 z)
 
-pub store-shown : {n : ℕ} (S : Scratch n) (d : Operand) (c old : ℕ) → c < 2 → old < 2 → (k x y z : ℕ) (r : List ℕ) (q w : ℕ)
+pub write-back-shown : {n : ℕ} (S : Scratch n) (d : Operand) (c old : ℕ) → c < 2 → old < 2 → (k x y z : ℕ) (r : List ℕ) (q w : ℕ)
     → got S x y z ≡ code c → getD r q 0 ≡ code old → Destination d r q w
-    → exec (store n d) k (held x y z r) ≡ ran (storeEnd k) (held x y z (set r q (code c))) (storeShown k (weight w))
-unfolding storeShown ones
-store-shown S d c old hc ho k x y z r q w eg eo D =
-    store-exec S d k x y z r q w D ∙ rw (eg, eo, code-cleared old ho, code-weight c hc, code-loaded c hc)
+    → exec (writeBack n d) k (held x y z r) ≡ ran (writeBackEnd k) (held x y z (set r q (code c))) (writeBackShown k (weight w))
+unfolding writeBackShown ones
+write-back-shown S d c old hc ho k x y z r q w eg eo D =
+    write-back-exec S d k x y z r q w D ∙ rw (eg, eo, code-cleared old ho, code-weight c hc, code-loaded c hc)

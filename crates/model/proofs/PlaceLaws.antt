@@ -10,7 +10,7 @@ use native.Mathlib.Omega.{arith}
 use borrow.Author.Tests.{lt-ltb, le-ltb}
 use lib.ListN.{length, getD, set, length-set}
 use lib.Seq.{getD-set-same, getD-set-other}
-use Rattle.model.specs.Places.{State, Kind, Fixed, Public, Sensitive, kind}
+use Rattle.model.specs.Places.{State, Kind, Neither, Public, Sensitive, kind}
 use Rattle.model.specs.Images.{Bit, BitState, mapAt, SamePublic}
 
 -- ---- kinds
@@ -31,7 +31,7 @@ pub sensitive-cell : (i : ℕ) → 160 ≤ i → i < 288 → kind i ≡ Sensitiv
 unfolding kind
 sensitive-cell i h g = rw (le-ltb i 4 (omega arith), le-ltb i 16 (omega arith), le-ltb i 32 (omega arith), le-ltb i 160 h, lt-ltb i 288 g)
 
-pub table-cell : (i : ℕ) → 288 ≤ i → kind i ≡ Fixed
+pub table-cell : (i : ℕ) → 288 ≤ i → kind i ≡ Neither
 unfolding kind
 table-cell i h = rw (le-ltb i 4 (omega arith), le-ltb i 16 (omega arith), le-ltb i 32 (omega arith), le-ltb i 160 (omega arith), le-ltb i 288 h)
 

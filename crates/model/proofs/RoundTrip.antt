@@ -14,7 +14,8 @@ use Rattle.model.specs.Limits.{lineWidth, maxLines}
 use Rattle.model.specs.Answers.{Report, counted, refused, Outcome, outcome, unlessRefused, atFront}
 use Rattle.model.specs.Stored.{codes, lineCount, Parsed, numbers, wrong, lines, programCheck}
 use Rattle.model.specs.Text.{newline, spellLine, past, frontLine, Reading, ends, thenReads, reading, readOutcome, textOf, writeOutcome}
-use Rattle.model.proofs.StoredLaws.{CheckAnswer, accepts, refuses, check-answer, AllCorrect, never-counted, counted-count, program-checked, length-lines, codes-length, whole-lines, whole-check}
+use Rattle.model.specs.Lines.{AllCorrect}
+use Rattle.model.proofs.StoredLaws.{CheckAnswer, accepts, refuses, check-answer, never-counted, counted-count, program-checked, length-lines, codes-length, whole-lines, whole-check}
 use Rattle.model.proofs.ReadingLaws.{lineText, line-text, front-there, past-there, FrontLine, front-back}
 
 -- ---- the definitions' clauses, with the search by spelling shut

@@ -16,17 +16,17 @@ use Rattle.model.specs.declared.Target.{Target}
 use Rattle.model.specs.declared.Target.the-variants.{Empty as NoTarget, Line as ToLine}
 use Rattle.model.specs.declared.Line.{Line}
 use Rattle.model.specs.Places.{State, value}
-use Rattle.model.specs.Step.{Row, row, result, next, after, taken, goal, weight}
+use Rattle.model.specs.Step.{Row, row, result, next, after, taken, targetLine, weight}
 use Rattle.model.specs.Run.{Ran, push, run}
 use Rattle.model.specs.Lines.{correct}
 use Rattle.model.specs.Images.{BitState}
-use Rattle.model.specs.Expansion.{macro, coded, moved, partOf, size, start, expand}
-use Rattle.model.specs.Marks.{markFault, AllRight}
+use Rattle.model.specs.Expansion.{macro, coded, newTarget, partOf, size, start, expand}
+use Rattle.model.specs.Marks.{markFault}
 use Rattle.model.specs.Claims.{span}
 use Rattle.model.proofs.Runs.{ran, stopped, step-run, run-zero, run-add, joinRuns}
 use Rattle.model.proofs.Straight.{exec-at, exec-rows, drop-head, run-straight}
 use Rattle.model.proofs.Parts.{part-at, start-suc}
-use Rattle.model.proofs.Acceptance.{mk, line-at, Plain, plain, Masked, masked}
+use Rattle.model.proofs.Acceptance.{mk, AllRight, line-at, Plain, plain, Masked, masked}
 use Rattle.model.proofs.Pieces.{held}
 use Rattle.model.proofs.ImageLaws.{zeros, rails, same-held}
 use Rattle.model.proofs.MarkedLines.{Weights, Related, weighed, shown, macro-done, macro-straight, next-marked}
@@ -69,18 +69,18 @@ line-marked p k op d a b t e M r bits x y z w wx wy wz =
       related = subst (λ (q : Ran). Related (after l (zeros r)) (q .state) (weighed op w)) (sym g) (D .related);
     }
 
-goal-moved : (p : List Line) (t : Target) → goal (moved (start p) t) ≡ start p (goal t)
-unfolding goal moved start
+goal-moved : (p : List Line) (t : Target) → targetLine (newTarget (start p) t) ≡ start p (targetLine t)
+unfolding targetLine newTarget start
 goal-moved [] NoTarget = refl
 goal-moved (l ∷ p) NoTarget = refl
 goal-moved p (ToLine t) = refl
 
 next-moved : (p : List Line) (k : ℕ) (op : Opcode) (d a b : Operand) (t : Target) (s : State) → start p (suc k) ≡ start p k + 1
-    → next (mk Unmarked op d a b (moved (start p) t)) (start p k) s ≡ start p (next (mk Unmarked op d a b t) k s)
+    → next (mk Unmarked op d a b (newTarget (start p) t)) (start p k) s ≡ start p (next (mk Unmarked op d a b t) k s)
 unfolding next
 next-moved p k op d a b t s e = go (taken op (value a s) (value b s))
   where
-    go : (c : Bool) → cond c (goal (moved (start p) t)) (suc (start p k)) ≡ start p (cond c (goal t) (suc k))
+    go : (c : Bool) → cond c (targetLine (newTarget (start p) t)) (suc (start p k)) ≡ start p (cond c (targetLine t) (suc k))
     go true = goal-moved p t
     go false = omega (arith, e)
 
@@ -90,7 +90,7 @@ line-plain : (p : List Line) (k : ℕ) (op : Opcode) (d a b : Operand) (t : Targ
 unfolding lineRows lineWeights expand size partOf row after result
 line-plain p k op d a b t e P r bits x y z w wx wy wz =
     let l = mk Unmarked op d a b t in
-    let m = mk Unmarked op d a b (moved (start p) t) in
+    let m = mk Unmarked op d a b (newTarget (start p) t) in
     let v = held x y z (rails r) in
     let h = same-held r bits x y z in
     let lv = held-length r bits x y z w wx wy wz in
@@ -99,9 +99,9 @@ line-plain p k op d a b t e P r bits x y z w wx wy wz =
     ∙ ap (push (row m (start p k) v)) (run-zero (expand p) (next m (start p k) v) (after m v)) in
     record {
       steps = ap (λ (q : Ran). length (q .rows)) g;
-      stands = ap (λ (q : Ran). q .at) g ∙ sym (next-same (zeros r) v (bits .long) lv h d a b P op (moved (start p) t) (start p k))
+      stands = ap (λ (q : Ran). q .at) g ∙ sym (next-same (zeros r) v (bits .long) lv h d a b P op (newTarget (start p) t) (start p k))
           ∙ next-moved p k op d a b t (zeros r) (start-suc p k l e);
-      shows = ap (λ (q : Ran). q .rows) g ∙ ap (λ (q : Row). q ∷ []) (sym (row-same (zeros r) v (bits .long) lv h d a b P op (moved (start p) t) (start p k)));
+      shows = ap (λ (q : Ran). q .rows) g ∙ ap (λ (q : Row). q ∷ []) (sym (row-same (zeros r) v (bits .long) lv h d a b P op (newTarget (start p) t) (start p k)));
       related = subst (λ (q : Ran). Related (after l (zeros r)) (q .state) w) (sym g) (plain-related r bits x y z w wx wy wz op d a b t P);
     }
 

@@ -21,7 +21,7 @@ use Rattle.model.specs.declared.Target.the-variants.{Empty as NoTarget, 
 use Rattle.model.specs.declared.Line.{Line}
 use Rattle.model.specs.Limits.{lineWidth, maxLines}
 use Rattle.model.specs.Answers.{Report, counted, refused}
-use Rattle.model.specs.Lines.{Filled, filled, fills, isLiteral, operandRight, targetRight, correct}
+use Rattle.model.specs.Lines.{Filled, filled, fills, isLiteral, operandRight, targetRight, correct, AllCorrect}
 use Rattle.model.specs.Stored.{literals, registers, cells, publics, sensitives, tables, marks, opcodes, operands, targets, markCode, opcodeCode, operandCode, targetCode, codes, markOf, opcodeOf, operandOf, targetOf, lineOf, Field, Parsed, numbers, wrong, orWrong, sameFilled, noLiteral, parsed, storedField, parsedNumbers, fault, lineCount, atLine, lineAt, faultAt, linesFrom, lines, checkFrom, programCheck}
 use Rattle.model.proofs.TestLaws.{below, is-true, holds, and-both, both-and, some-if, get-past}
 
@@ -483,10 +483,6 @@ module _ (p : List ℕ) where
   drop-end i h = let e : lineCount p - i ≡ 0 = omega arith in drop-lines i ∙ ap (linesFrom p i) e
 
 -- ---- a program that the check accepts
-
-abbrev pub AllCorrect : List Line → Type 0
-AllCorrect [] = Unit {0}
-AllCorrect (l ∷ ls) = T (correct l) × AllCorrect ls
 
 pub counted-count : {m n : ℕ} → counted m ≡ counted n → m ≡ n
 counted-count e = cc

@@ -13,7 +13,7 @@ use Rattle.model.specs.declared.Operand.{Operand}
 use Rattle.model.specs.declared.Operand.the-variants.{Empty, Literal, Register, Cell, PublicCell, SensitiveCell, TableCell}
 use Rattle.model.specs.declared.Target.{Target}
 use Rattle.model.specs.Places.{State, Public, kind, place, value}
-use Rattle.model.specs.Step.{weight, alu, taken, goal, result, next, after, row}
+use Rattle.model.specs.Step.{weight, alu, taken, targetLine, result, next, after, row}
 use Rattle.model.specs.Images.{BitState, SamePublic}
 use Rattle.model.proofs.PlaceLaws.{bits-set, same-both}
 use Rattle.model.proofs.Operands.{PublicOperand, steady-public, place-same, address-same, value-same, Of, public-register-of, public-cell-of}
@@ -45,7 +45,7 @@ module _ (s t : State) (ls : length s ≡ 544) (lt : length t ≡ 544) (h : Same
 
   pub next-same : (op : Opcode) (g : Target) (k : ℕ) → next (mk Unmarked op d a b g) k s ≡ next (mk Unmarked op d a b g) k t
   unfolding next
-  next-same op g k = ap₂ (λ (x y : ℕ). cond (taken op x y) (goal g) (suc k)) (value-same s t h a (P .first)) (value-same s t h b (P .second))
+  next-same op g k = ap₂ (λ (x y : ℕ). cond (taken op x y) (targetLine g) (suc k)) (value-same s t h a (P .first)) (value-same s t h b (P .second))
 
   pub after-same : (op : Opcode) (g : Target) → SamePublic (after (mk Unmarked op d a b g) s) (after (mk Unmarked op d a b g) t)
   unfolding after

@@ -38,9 +38,9 @@ abbrev pub outcome : Report → List (List ℕ) → Outcome
 outcome answer stores = record { answer = answer; stores = stores }
 
 -- what a second check answers where the first refused nothing
-abbrev pub orElse : Report → Report → Report
-orElse (done values) next = next
-orElse (refused number line) next = refused number line
+abbrev pub andThen : Report → Report → Report
+andThen (done values) next = next
+andThen (refused number line) next = refused number line
 
 -- what comes of a call where its check refused nothing; a refusal leaves every store as it is
 abbrev pub unlessRefused : Report → List (List ℕ) → Outcome → Outcome

@@ -1,7 +1,9 @@
--- 'Code, tables, macros', the macros line for line, a line's part, the starts, and the expansion.
+-- 'Code, tables, macros', the macros line for line, a line's part, the starts, the expansion, and condition 17.
 -- Assumes nothing.
+use mathlib.Core.Bool.{cond}
 use mathlib.Core.List.{List, [], _∷_, _++_, flatMap}
 use Prim.Native.Nat.{ℕ, zero, suc, _+_}
+use lib.Dec.{ltb}
 use lib.ListN.{length}
 use Rattle.model.specs.declared.Mark.{Mark}
 use Rattle.model.specs.declared.Mark.the-variants.{Unmarked, Marked}
@@ -12,6 +14,9 @@ use Rattle.model.specs.declared.Operand.the-variants.{Empty, Literal, Re
 use Rattle.model.specs.declared.Target.{Target}
 use Rattle.model.specs.declared.Target.the-variants.{Empty as NoTarget, Line as ToLine}
 use Rattle.model.specs.declared.Line.{Line}
+use Rattle.model.specs.Answers.{counted, refused, Outcome, outcome, unlessRefused, atFront}
+use Rattle.model.specs.Stored.{codes, lineCount, lines}
+use Rattle.model.specs.Marks.{markCheck}
 use Rattle.model.specs.Code.{code, mask, andTable, orrTable, xorTable}
 
 -- a literal of a marked line, coded
@@ -26,11 +31,11 @@ coded (SensitiveCell r k) = SensitiveCell r k
 coded (TableCell r k) = TableCell r k
 
 -- a line of a macro, with two arguments or with one; it carries the mark of the old line
-abbrev pub two : Opcode → Operand → Operand → Operand → Line
-two op d a b = record { mark = Marked; opcode = op; destination = d; first = a; second = b; target = NoTarget }
+abbrev pub markedLine : Opcode → Operand → Operand → Operand → Line
+markedLine op d a b = record { mark = Marked; opcode = op; destination = d; first = a; second = b; target = NoTarget }
 
 abbrev pub move : Operand → Operand → Line
-move d a = two Mov d a Empty
+move d a = markedLine Mov d a Empty
 
 -- ---- the pieces of the macros
 
@@ -41,16 +46,16 @@ load n a = move (Register n) (Register 0) ∷ move (Register n) a ∷ []
 -- the first code masked, and shifted to its place in the index
 unfoldable pub scale : List Line
 scale =
-    two And (Register 1) (Register 1) (Literal mask)
-    ∷ two Lsl (Register 1) (Register 1) (Literal 1)
-    ∷ two Lsl (Register 1) (Register 1) (Literal 1)
+    markedLine And (Register 1) (Register 1) (Literal mask)
+    ∷ markedLine Lsl (Register 1) (Register 1) (Literal 1)
+    ∷ markedLine Lsl (Register 1) (Register 1) (Literal 1)
     ∷ []
 
 -- the second code masked, and joined to the first
-unfoldable pub join : List Line
-join =
-    two And (Register 2) (Register 2) (Literal mask)
-    ∷ two Orr (Register 1) (Register 1) (Register 2)
+unfoldable pub combine : List Line
+combine =
+    markedLine And (Register 2) (Register 2) (Literal mask)
+    ∷ markedLine Orr (Register 1) (Register 1) (Register 2)
     ∷ []
 
 -- r3 precharged, and loaded from the table that begins at t
@@ -59,25 +64,25 @@ fetch t = move (Register 3) (Register 0) ∷ move (Register 3) (TableCell 1 t) �
 
 -- both bits of the code flipped
 unfoldable pub flip : List Line
-flip = two Xor (Register 1) (Register 1) (Literal mask) ∷ []
+flip = markedLine Xor (Register 1) (Register 1) (Literal mask) ∷ []
 
 -- the destination precharged, and written from register n
-unfoldable pub store : ℕ → Operand → List Line
-store n d = move d (Register 0) ∷ move d (Register n) ∷ []
+unfoldable pub writeBack : ℕ → Operand → List Line
+writeBack n d = move d (Register 0) ∷ move d (Register n) ∷ []
 
 -- ---- the macros
 
 -- and, orr, xor
 unfoldable pub lookup : ℕ → Operand → Operand → Operand → List Line
-lookup t d a b = load 1 a ++ (scale ++ (load 2 b ++ (join ++ (fetch t ++ store 3 d))))
+lookup t d a b = load 1 a ++ (scale ++ (load 2 b ++ (combine ++ (fetch t ++ writeBack 3 d))))
 
 -- not
 unfoldable pub negate : Operand → Operand → List Line
-negate d a = load 1 a ++ (flip ++ store 1 d)
+negate d a = load 1 a ++ (flip ++ writeBack 1 d)
 
 -- mov
 unfoldable pub copy : Operand → Operand → List Line
-copy d a = load 3 a ++ store 3 d
+copy d a = load 3 a ++ writeBack 3 d
 
 -- the macro of a marked line; the opcodes that no accepted one has give nothing
 unfoldable pub macro : Opcode → Operand → Operand → Operand → List Line
@@ -99,16 +104,16 @@ macro Bne d a b = []
 -- ---- the expansion
 
 -- a target becomes the start of that line's expansion
-unfoldable pub moved : (ℕ → ℕ) → Target → Target
-moved starts NoTarget = NoTarget
-moved starts (ToLine t) = ToLine (starts t)
+unfoldable pub newTarget : (ℕ → ℕ) → Target → Target
+newTarget starts NoTarget = NoTarget
+newTarget starts (ToLine t) = ToLine (starts t)
 
 abbrev pub retarget : (ℕ → ℕ) → Line → Line
-retarget starts l = record { mark = l .mark; opcode = l .opcode; destination = l .destination; first = l .first; second = l .second; target = moved starts (l .target) }
+retarget starts l = record { mark = l .mark; opcode = l .opcode; destination = l .destination; first = l .first; second = l .second; target = newTarget starts (l .target) }
 
 -- the part of the expansion that a line becomes: an unmarked line itself, a marked one its macro
 unfoldable pub partOf : Mark → (ℕ → ℕ) → Line → List Line
-unfolding macro coded moved
+unfolding macro coded newTarget
 partOf Unmarked starts l = retarget starts l ∷ []
 partOf Marked starts l = macro (l .opcode) (l .destination) (coded (l .first)) (coded (l .second))
 
@@ -135,3 +140,12 @@ joined starts ls = flatMap (part starts) ls
 unfoldable pub expand : List Line → List Line
 unfolding joined start
 expand p = joined (start p) p
+
+-- the mark check, then 17 fewer lines than the expansion has
+unfoldable pub expandOutcome : List ℕ → List ℕ → Outcome
+unfolding markCheck expand flatMap
+expandOutcome p out =
+    unlessRefused (markCheck p) (out ∷ [])
+    (cond (ltb (lineCount out) (length (expand (lines p))))
+    (outcome (refused 17 0) (out ∷ []))
+    (outcome (counted (length (expand (lines p)))) (atFront (flatMap codes (expand (lines p))) out ∷ [])))

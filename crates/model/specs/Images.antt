@@ -8,12 +8,12 @@ use lib.Dec.{ltb, leb, eqb}
 use lib.ListN.{getD, length}
 use Rattle.model.specs.Limits.{stateSize}
 use Rattle.model.specs.Answers.{counted, refused, Outcome, outcome}
-use Rattle.model.specs.Places.{State, Kind, Fixed, Public, Sensitive, kind}
+use Rattle.model.specs.Places.{State, Kind, Neither, Public, Sensitive, kind}
 use Rattle.model.specs.Code.{code, page}
 
 -- by the kind of a place
 abbrev pub byKind {ℓ} : {A : Type ℓ} → Kind → A → A → A → A
-byKind Fixed x y z = x
+byKind Neither x y z = x
 byKind Public x y z = y
 byKind Sensitive x y z = z
 

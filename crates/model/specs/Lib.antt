@@ -8,7 +8,7 @@ pub mod Step
 pub mod Run
 pub mod Code
 pub mod Images
-pub mod Expansion
 pub mod Marks
+pub mod Expansion
 pub mod Programs
 pub mod Claims

@@ -1,7 +1,8 @@
 -- 'Line form': which fields an opcode fills, and the correct lines.
 -- Assumes nothing.
 use mathlib.Core.Bool.{Bool, true, false, not, _&&_}
-use lib.Dec.{leb, ltb}
+use mathlib.Core.List.{List, [], _∷_}
+use lib.Dec.{leb, ltb, T}
 use Rattle.model.specs.declared.Opcode.{Opcode}
 use Rattle.model.specs.declared.Opcode.the-variants.{Nop, Jmp, Not, Mov, And, Orr, Xor, Lsl, Lsr, Add, Mul, Beq, Bne}
 use Rattle.model.specs.declared.Operand.{Operand}
@@ -66,3 +67,8 @@ unfolding fills operandRight targetRight isLiteral
 correct l = operandRight (fills (l .opcode) .destination) (l .destination) && not (isLiteral (l .destination))
     && operandRight (fills (l .opcode) .first) (l .first) && operandRight (fills (l .opcode) .second) (l .second)
     && targetRight (fills (l .opcode) .target) (l .target)
+
+-- a program of correct lines. (`parsed` of Stored judges numbers and text by the same ranges: proofs/StoredLaws)
+abbrev pub AllCorrect : List Line → Type 0
+AllCorrect [] = Unit {0}
+AllCorrect (l ∷ ls) = T (correct l) × AllCorrect ls

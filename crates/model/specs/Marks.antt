@@ -1,10 +1,10 @@
--- The mark check: conditions 9 to 16, the accepted programs, and the expansion of a stored program.
+-- The mark check: conditions 9 to 16, and the accepted programs.
 -- Assumes nothing.
 use mathlib.Core.Path.{_≡_}
 use mathlib.Core.Bool.{Bool, true, false, not, cond, _&&_, _||_}
-use mathlib.Core.List.{List, [], _∷_, flatMap}
-use Prim.Native.Nat.{ℕ, _+_, _≤_}
-use lib.Dec.{ltb, eqb, T}
+use mathlib.Core.List.{List, [], _∷_}
+use Prim.Native.Nat.{ℕ, _+_}
+use lib.Dec.{ltb, eqb}
 use lib.ListN.{length}
 use Rattle.model.specs.declared.Mark.{Mark}
 use Rattle.model.specs.declared.Mark.the-variants.{Unmarked, Marked}
@@ -16,11 +16,10 @@ use Rattle.model.specs.declared.Target.{Target}
 use Rattle.model.specs.declared.Target.the-variants.{Empty as NoTarget, Line as ToLine}
 use Rattle.model.specs.declared.Line.{Line}
 use Rattle.model.specs.Limits.{maxAccepted}
-use Rattle.model.specs.Answers.{Report, counted, refused, Outcome, outcome, orElse, unlessRefused, atFront}
+use Rattle.model.specs.Answers.{Report, counted, refused, andThen}
 use Rattle.model.specs.Places.{kind, kindOf, isPublic, isSensitive}
-use Rattle.model.specs.Lines.{correct}
-use Rattle.model.specs.Stored.{codes, lineCount, lines, programCheck}
-use Rattle.model.specs.Expansion.{expand}
+use Rattle.model.specs.Lines.{AllCorrect}
+use Rattle.model.specs.Stored.{lines, programCheck}
 
 -- ---- what the conditions ask of an operand, an opcode and a target
 
@@ -82,46 +81,46 @@ isMarked Marked = true
 
 -- ---- the conditions of a line; n is the line count
 
-unfoldable pub breaks10 : Line → Bool
+unfoldable pub holds10 : Line → Bool
 unfolding isReserved
-breaks10 l = isReserved (l .destination) || isReserved (l .first) || isReserved (l .second)
+holds10 l = isReserved (l .destination) || isReserved (l .first) || isReserved (l .second)
 
-unfoldable pub breaks11 : Line → Bool
+unfoldable pub holds11 : Line → Bool
 unfolding kindOf
-breaks11 l = cond (isMarked (l .mark)) (isPublic (kindOf (l .destination))) (isSensitive (kindOf (l .destination)))
+holds11 l = cond (isMarked (l .mark)) (isPublic (kindOf (l .destination))) (isSensitive (kindOf (l .destination)))
 
-unfoldable pub breaks12 : Line → Bool
+unfoldable pub holds12 : Line → Bool
 unfolding kindOf hasSensitiveBase
-breaks12 l = cond (isMarked (l .mark)) false (isSensitive (kindOf (l .first)) || isSensitive (kindOf (l .second)))
+holds12 l = cond (isMarked (l .mark)) false (isSensitive (kindOf (l .first)) || isSensitive (kindOf (l .second)))
     || (hasSensitiveBase (l .destination) || hasSensitiveBase (l .first) || hasSensitiveBase (l .second))
 
-unfoldable pub breaks13 : Line → Bool
+unfoldable pub holds13 : Line → Bool
 unfolding kindOf
-breaks13 l = isMarked (l .mark) && (isPublic (kindOf (l .first)) || isPublic (kindOf (l .second)))
+holds13 l = isMarked (l .mark) && (isPublic (kindOf (l .first)) || isPublic (kindOf (l .second)))
 
-unfoldable pub breaks14 : Line → Bool
+unfoldable pub holds14 : Line → Bool
 unfolding hasMacro
-breaks14 l = isMarked (l .mark) && not (hasMacro (l .opcode))
+holds14 l = isMarked (l .mark) && not (hasMacro (l .opcode))
 
-unfoldable pub breaks15 : Line → Bool
+unfoldable pub holds15 : Line → Bool
 unfolding isNoBit
-breaks15 l = isMarked (l .mark) && (isNoBit (l .first) || isNoBit (l .second))
+holds15 l = isMarked (l .mark) && (isNoBit (l .first) || isNoBit (l .second))
 
-unfoldable pub breaks16 : ℕ → Line → Bool
+unfoldable pub holds16 : ℕ → Line → Bool
 unfolding isAbove
-breaks16 n l = isAbove n (l .target)
+holds16 n l = isAbove n (l .target)
 
 -- the lowest condition that holds of a line; 0 for none
 unfoldable pub markFault : ℕ → Line → ℕ
-unfolding breaks10 breaks11 breaks12 breaks13 breaks14 breaks15 breaks16
+unfolding holds10 holds11 holds12 holds13 holds14 holds15 holds16
 markFault n l =
-    cond (breaks10 l) 10
-    (cond (breaks11 l) 11
-    (cond (breaks12 l) 12
-    (cond (breaks13 l) 13
-    (cond (breaks14 l) 14
-    (cond (breaks15 l) 15
-    (cond (breaks16 n l) 16
+    cond (holds10 l) 10
+    (cond (holds11 l) 11
+    (cond (holds12 l) 12
+    (cond (holds13 l) 13
+    (cond (holds14 l) 14
+    (cond (holds15 l) 15
+    (cond (holds16 n l) 16
     0))))))
 
 -- ---- the check of a program
@@ -140,24 +139,9 @@ marksOf p = cond (ltb maxAccepted (length p)) (refused 9 0) (firstBad (length p)
 -- 7, 3 to 6, then 9 to 16
 unfoldable pub markCheck : List ℕ → Report
 unfolding programCheck marksOf
-markCheck p = orElse (programCheck p) (marksOf (lines p))
+markCheck p = andThen (programCheck p) (marksOf (lines p))
 
--- the mark check, then 17 fewer lines than the expansion has
-unfoldable pub expandOutcome : List ℕ → List ℕ → Outcome
-unfolding markCheck expand flatMap
-expandOutcome p out =
-    unlessRefused (markCheck p) (out ∷ [])
-    (cond (ltb (lineCount out) (length (expand (lines p))))
-    (outcome (refused 17 0) (out ∷ []))
-    (outcome (counted (length (expand (lines p)))) (atFront (flatMap codes (expand (lines p))) out ∷ [])))
-
--- ---- accepted programs: of correct lines, and none of the conditions 9 to 16 holds
-
-unfoldable pub AllRight : ℕ → List Line → Type 0
-unfolding correct markFault
-AllRight n [] = Unit {0}
-AllRight n (l ∷ ls) = T (correct l) × (markFault n l ≡ 0) × AllRight n ls
-
+-- a program of correct lines is accepted exactly when none of the conditions 9 to 16 holds
 unfoldable pub Accepted : List Line → Type 0
-unfolding AllRight
-Accepted p = (length p ≤ maxAccepted) × AllRight (length p) p
+unfolding marksOf
+Accepted p = AllCorrect p × (marksOf p ≡ counted (length p))

@@ -15,37 +15,37 @@ State = List ℕ
 
 -- r4 to r15 and cells 0 to 127 are public, r16 to r31 and cells 128 to 255 sensitive; r0 to r3 and the table page are neither
 pub data Kind : Type 0 where
-  Fixed Public Sensitive : Kind
+  Neither Public Sensitive : Kind
 
 unfoldable pub kind : ℕ → Kind
 kind i =
-    cond (ltb i 4) Fixed
+    cond (ltb i 4) Neither
     (cond (ltb i 16) Public
     (cond (ltb i 32) Sensitive
     (cond (ltb i 160) Public
     (cond (ltb i 288) Sensitive
-    Fixed))))
+    Neither))))
 
 abbrev pub isPublic : Kind → Bool
-isPublic Fixed = false
+isPublic Neither = false
 isPublic Public = true
 isPublic Sensitive = false
 
 abbrev pub isSensitive : Kind → Bool
-isSensitive Fixed = false
+isSensitive Neither = false
 isSensitive Public = false
 isSensitive Sensitive = true
 
 -- the kind of the places that an operand names: `!` is public, `%` sensitive and `^` neither, whatever the base holds
 unfoldable pub kindOf : Operand → Kind
 unfolding kind
-kindOf Empty = Fixed
-kindOf (Literal n) = Fixed
+kindOf Empty = Neither
+kindOf (Literal n) = Neither
 kindOf (Register n) = kind n
 kindOf (Cell n) = kind (32 + n)
 kindOf (PublicCell r k) = Public
 kindOf (SensitiveCell r k) = Sensitive
-kindOf (TableCell r k) = Fixed
+kindOf (TableCell r k) = Neither
 
 -- the number of the cell that an operand names; 0 where it names none
 unfoldable pub address : Operand → State → ℕ

@@ -32,17 +32,17 @@ unfoldable pub answer : List Line → Ran → Report
 answer p x = cond (ltb (x .at) (length p)) (spent (x .at) (length (x .rows))) (halted (x .at) (length (x .rows)))
 
 -- what a run leaves: its state, and the rows' numbers one after the other at the front of the trace store
-unfoldable pub leaves : List Line → Ran → List ℕ → Outcome
+unfoldable pub runLeaves : List Line → Ran → List ℕ → Outcome
 unfolding answer flatMap
-leaves p x trace = outcome (answer p x) (x .state ∷ atFront (flatMap (λ r. r) (x .rows)) trace ∷ [])
+runLeaves p x trace = outcome (answer p x) (x .state ∷ atFront (flatMap (λ r. r) (x .rows)) trace ∷ [])
 
 -- 7, 3 to 6, then 18, then 20 a trace store too short for the budget
 unfoldable pub runOutcome : List ℕ → ℕ → ℕ → State → List ℕ → Outcome
-unfolding programCheck run leaves
+unfolding programCheck run runLeaves
 runOutcome p start budget state trace =
     unlessRefused (programCheck p) (state ∷ trace ∷ [])
     (cond (eqb (length state) stateSize)
     (cond (ltb (length trace) (rowWidth * budget))
     (outcome (refused 20 0) (state ∷ trace ∷ []))
-    (leaves (lines p) (run (lines p) budget start state) trace))
+    (runLeaves (lines p) (run (lines p) budget start state) trace))
     (outcome (refused 18 0) (state ∷ trace ∷ [])))

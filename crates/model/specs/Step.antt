@@ -71,9 +71,9 @@ taken Mul x y = false
 taken Beq x y = eqb x y
 taken Bne x y = not (eqb x y)
 
-unfoldable pub goal : Target → ℕ
-goal NoTarget = 0
-goal (ToLine t) = t
+unfoldable pub targetLine : Target → ℕ
+targetLine NoTarget = 0
+targetLine (ToLine t) = t
 
 -- an argument, as a line of that mark reads it: the mark changes nothing here
 unfoldable pub argument : Mark → Operand → State → ℕ
@@ -87,8 +87,8 @@ result l s = alu (l .mark) (l .opcode) (argument (l .mark) (l .first) s) (argume
 
 -- the counter afterwards, k being the line,
 unfoldable pub next : Line → ℕ → State → ℕ
-unfolding taken argument goal
-next l k s = cond (taken (l .opcode) (argument (l .mark) (l .first) s) (argument (l .mark) (l .second) s)) (goal (l .target)) (suc k)
+unfolding taken argument targetLine
+next l k s = cond (taken (l .opcode) (argument (l .mark) (l .first) s) (argument (l .mark) (l .second) s)) (targetLine (l .target)) (suc k)
 
 -- the state afterwards,
 unfoldable pub after : Line → State → State

@@ -1,8 +1,8 @@
--- `expander::marks::breaks10` meets its contract. The tests that it joins are those of the definition. Assumes nothing.
-use Rattle.model.specs.Marks.{breaks10}
+-- `expander::marks::holds10` meets its contract. The tests that it joins are those of the definition. Assumes nothing.
+use Rattle.model.specs.Marks.{holds10}
 use borrow.Author.Needs.{needs}
-use Rattle.expander.proofs.marks.breaks10.Statement.{statement}
-use Rattle.expander.proofs.marks.breaks10.Tie as tie
+use Rattle.expander.proofs.marks.holds10.Statement.{statement}
+use Rattle.expander.proofs.marks.holds10.Tie as tie
 
 is-reserved-requires : tie.Need-is-reserved-requires
 is-reserved-requires c κs = search needs
@@ -17,11 +17,11 @@ any-requires : tie.Need-any-requires
 any-requires c κs = search needs
 
 returns : tie.Need-returns
-unfolding breaks10
+unfolding holds10
 returns c = cc
 
-pub breaks10-spec : {M : Type 1} → statement M
-breaks10-spec =
+pub holds10-spec : {M : Type 1} → statement M
+holds10-spec =
     tie.close
     (tie.spec
     is-reserved-requires

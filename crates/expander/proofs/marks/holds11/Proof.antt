@@ -1,8 +1,8 @@
--- `expander::marks::breaks11` meets its contract. The tests that it joins are those of the definition. Assumes nothing.
-use Rattle.model.specs.Marks.{breaks11}
+-- `expander::marks::holds11` meets its contract. The tests that it joins are those of the definition. Assumes nothing.
+use Rattle.model.specs.Marks.{holds11}
 use borrow.Author.Needs.{needs}
-use Rattle.expander.proofs.marks.breaks11.Statement.{statement}
-use Rattle.expander.proofs.marks.breaks11.Tie as tie
+use Rattle.expander.proofs.marks.holds11.Statement.{statement}
+use Rattle.expander.proofs.marks.holds11.Tie as tie
 
 is-marked-requires : tie.Need-is-marked-requires
 is-marked-requires c κs = search needs
@@ -17,10 +17,10 @@ choose-requires : tie.Need-choose-requires
 choose-requires c κs = search needs
 
 returns : tie.Need-returns
-unfolding breaks11
+unfolding holds11
 returns c = cc
 
-pub breaks11-spec : {M : Type 1} → statement M
-breaks11-spec =
+pub holds11-spec : {M : Type 1} → statement M
+holds11-spec =
     tie.close
     (tie.spec is-marked-requires is-public-requires is-sensitive-requires choose-requires returns)

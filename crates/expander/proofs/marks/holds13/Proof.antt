@@ -1,8 +1,8 @@
--- `expander::marks::breaks13` meets its contract. The tests that it joins are those of the definition. Assumes nothing.
-use Rattle.model.specs.Marks.{breaks13}
+-- `expander::marks::holds13` meets its contract. The tests that it joins are those of the definition. Assumes nothing.
+use Rattle.model.specs.Marks.{holds13}
 use borrow.Author.Needs.{needs}
-use Rattle.expander.proofs.marks.breaks13.Statement.{statement}
-use Rattle.expander.proofs.marks.breaks13.Tie as tie
+use Rattle.expander.proofs.marks.holds13.Statement.{statement}
+use Rattle.expander.proofs.marks.holds13.Tie as tie
 
 is-marked-requires : tie.Need-is-marked-requires
 is-marked-requires c κs = search needs
@@ -20,11 +20,11 @@ both-requires : tie.Need-both-requires
 both-requires c κs = search needs
 
 returns : tie.Need-returns
-unfolding breaks13
+unfolding holds13
 returns c = cc
 
-pub breaks13-spec : {M : Type 1} → statement M
-breaks13-spec =
+pub holds13-spec : {M : Type 1} → statement M
+holds13-spec =
     tie.close
     (tie.spec
     is-marked-requires

@@ -1,8 +1,8 @@
--- `expander::marks::breaks15` meets its contract. The tests that it joins are those of the definition. Assumes nothing.
-use Rattle.model.specs.Marks.{breaks15}
+-- `expander::marks::holds15` meets its contract. The tests that it joins are those of the definition. Assumes nothing.
+use Rattle.model.specs.Marks.{holds15}
 use borrow.Author.Needs.{needs}
-use Rattle.expander.proofs.marks.breaks15.Statement.{statement}
-use Rattle.expander.proofs.marks.breaks15.Tie as tie
+use Rattle.expander.proofs.marks.holds15.Statement.{statement}
+use Rattle.expander.proofs.marks.holds15.Tie as tie
 
 is-marked-requires : tie.Need-is-marked-requires
 is-marked-requires c κs = search needs
@@ -20,11 +20,11 @@ both-requires : tie.Need-both-requires
 both-requires c κs = search needs
 
 returns : tie.Need-returns
-unfolding breaks15
+unfolding holds15
 returns c = cc
 
-pub breaks15-spec : {M : Type 1} → statement M
-breaks15-spec =
+pub holds15-spec : {M : Type 1} → statement M
+holds15-spec =
     tie.close
     (tie.spec
     is-marked-requires

@@ -1,8 +1,8 @@
--- `expander::marks::breaks12` meets its contract. The tests that it joins are those of the definition. Assumes nothing.
-use Rattle.model.specs.Marks.{breaks12}
+-- `expander::marks::holds12` meets its contract. The tests that it joins are those of the definition. Assumes nothing.
+use Rattle.model.specs.Marks.{holds12}
 use borrow.Author.Needs.{needs}
-use Rattle.expander.proofs.marks.breaks12.Statement.{statement}
-use Rattle.expander.proofs.marks.breaks12.Tie as tie
+use Rattle.expander.proofs.marks.holds12.Statement.{statement}
+use Rattle.expander.proofs.marks.holds12.Tie as tie
 
 is-marked-requires : tie.Need-is-marked-requires
 is-marked-requires c κs = search needs
@@ -35,11 +35,11 @@ either-requires-2 : tie.Need-either-requires-2
 either-requires-2 c κs = search needs
 
 returns : tie.Need-returns
-unfolding breaks12
+unfolding holds12
 returns c = cc
 
-pub breaks12-spec : {M : Type 1} → statement M
-breaks12-spec =
+pub holds12-spec : {M : Type 1} → statement M
+holds12-spec =
     tie.close
     (tie.spec
     is-marked-requires
