@@ -1,5 +1,5 @@
 pub mod Tests
-pub mod Decoded
+pub mod Numbers
 pub mod Faults
 pub mod Lines
 pub mod Programs

@@ -1,6 +1,6 @@
 -- `coding::numbers_at` meets its contract: a whole line, a line past the end, and the numbers that are left over. Assumes nothing.
 use borrow.Author.Needs.{needs}
-use Rattle.coding.proofs.Decoded.{same-numbers, past-numbers}
+use Rattle.coding.proofs.Numbers.{same-numbers, past-numbers}
 use Rattle.coding.proofs.numbers_at.Statement.{statement}
 use Rattle.coding.proofs.numbers_at.Tie as tie
 

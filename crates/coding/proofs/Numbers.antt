@@ -1,4 +1,4 @@
--- The numbers past the end of a stored program are 0.
+-- Six numbers: equal one by one, and 0 past the end of a stored program.
 -- Assumes nothing.
 use mathlib.Core.Path.{_≡_, sym}
 use mathlib.Core.List.{List, [], _∷_}

@@ -1,0 +1,5 @@
+pub mod Product
+pub mod Loops
+pub mod Traces
+pub mod Outcomes
+pub mod Endings

@@ -1,0 +1,34 @@
+-- The outcome of a whole run: each way that it is refused, and the loop over steps where it is not.
+-- Assumes nothing.
+use mathlib.Core.Path.{_≡_, refl, sym, ap, _∙_}
+use mathlib.Core.List.{List, [], _∷_}
+use Prim.Native.Nat.{ℕ, _*_, _<_, _≤_}
+use lib.ListN.{length}
+use borrow.Author.Tests.{eq-eqb, ne-eqb, lt-ltb, le-ltb}
+use Rattle.model.specs.Limits.{stateSize, rowWidth}
+use Rattle.model.specs.Answers.{counted, refused, outcome}
+use Rattle.model.specs.Stored.{lineCount, programCheck}
+use Rattle.model.specs.Run.{runOutcome}
+use Rattle.coding.proofs.Programs.{count-bounds}
+use Rattle.machine.specs.Loop.{machine, runFrom}
+use Rattle.machine.proofs.Traces.{run-leaves}
+
+module _ (p : List ℕ) (start budget : ℕ) (s t : List ℕ) where
+  pub no-program : (k l : ℕ) → refused k l ≡ programCheck p → outcome (refused k l) (s ∷ t ∷ []) ≡ runOutcome p start budget s t
+  unfolding runOutcome
+  no-program k l e = rw (← e)
+
+  module _ (n : ℕ) (e : counted n ≡ programCheck p) where
+    pub no-state : (length s ≡ stateSize → ⊥) → outcome (refused 18 0) (s ∷ t ∷ []) ≡ runOutcome p start budget s t
+    unfolding runOutcome
+    no-state h = rw (← e, ne-eqb (length s) stateSize h)
+
+    pub no-room : length s ≡ stateSize → length t < rowWidth * budget → outcome (refused 20 0) (s ∷ t ∷ []) ≡ runOutcome p start budget s t
+    unfolding runOutcome
+    no-room h k = rw (← e, eq-eqb (length s) stateSize h, lt-ltb _ _ k)
+
+    pub runs : length s ≡ stateSize → rowWidth * budget ≤ length t → runFrom p n budget (machine (record { counter = start; steps = 0 }) s t) ≡ runOutcome p start budget s t
+    unfolding runOutcome
+    runs h k =
+        rw (← e, eq-eqb (length s) stateSize h, le-ltb _ _ k)
+        (ap (λ (j : ℕ). runFrom p j budget (machine (record { counter = start; steps = 0 }) s t)) (count-bounds p n e .0) ∙ run-leaves p start budget s t k)

@@ -1,0 +1,18 @@
+-- `machine::distance` meets its contract: a byte has at most 8 ones. Assumes nothing.
+use native.Mathlib.Omega.{arith}
+use lib.Bits.{xor-lt}
+use lib.Count.{ones-le}
+use borrow.Author.Needs.{needs}
+use Rattle.model.specs.Step.{distance}
+use Rattle.machine.proofs.distance.Statement.{statement}
+use Rattle.machine.proofs.distance.Tie as tie
+
+cast-result : tie.Need-cast-result
+cast-result c = omega (arith, ones-le 8 _ (xor-lt 8 _ _ (c .fits .x .fits) (c .fits .y .fits)))
+
+returns : tie.Need-returns
+unfolding distance
+returns c = search needs
+
+pub distance-spec : {M : Type 1} → statement M
+distance-spec = tie.close (tie.spec cast-result returns)

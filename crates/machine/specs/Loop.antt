@@ -1,0 +1,63 @@
+-- The parts of a step that the code hands from function to function, and the loop over steps with a trace store.
+-- proofs/Traces ties the loop to the model's run. Assumes nothing.
+use mathlib.Core.Bool.{cond}
+use mathlib.Core.List.{List, [], _∷_, _++_}
+use Prim.Native.Nat.{ℕ, zero, suc, _+_, _*_}
+use lib.Dec.{ltb}
+use lib.ListN.{getD, take, drop}
+use Rattle.model.specs.declared.Mark.{Mark}
+use Rattle.model.specs.declared.Line.{Line}
+use Rattle.model.specs.declared.Operand.{Operand}
+use Rattle.model.specs.Limits.{rowWidth}
+use Rattle.model.specs.Answers.{halted, spent, Outcome, outcome}
+use Rattle.model.specs.Places.{State, address}
+use Rattle.model.specs.Stored.{lineAt}
+use Rattle.model.specs.Step.{weight, distance, argument, Row, next, after, row}
+use Rattle.machine.specs.declared.Fetched.{Fetched}
+use Rattle.machine.specs.declared.steps.Run.{Run}
+
+-- what the cell n reads, with its number
+abbrev pub cellOf : State → ℕ → Fetched
+cellOf s n = record { value = getD s (32 + n) 0; address = n }
+
+-- what an argument reads, and its address
+abbrev pub argumentOf : Mark → Operand → State → Fetched
+argumentOf m o s = record { value = argument m o s; address = address o s }
+
+-- the row of line k, from the old value, the result and the addresses
+abbrev pub rowOf : ℕ → ℕ → ℕ → ℕ → ℕ → ℕ → Row
+rowOf k old result first second destination = k ∷ weight result ∷ distance old result ∷ weight first ∷ weight second ∷ weight destination ∷ []
+
+-- a trace store with row n replaced
+abbrev pub putRow : List ℕ → ℕ → Row → List ℕ
+putRow t n r = take (rowWidth * n) t ++ r ++ drop (rowWidth * n + rowWidth) t
+
+-- the run's counter and step tally, the state, and the trace store
+pub record Machine : Type 0 where
+  pub run : Run
+  pub state : State
+  pub trace : List ℕ
+
+abbrev pub machine : Run → State → List ℕ → Machine
+machine r s t = record { run = r; state = s; trace = t }
+
+-- one step of a line
+unfoldable pub stepBy : Line → Machine → Machine
+stepBy l m =
+    machine (record { counter = next l (m .run .counter) (m .state); steps = m .run .steps + 1 })
+    (after l (m .state)) (putRow (m .trace) (m .run .steps) (row l (m .run .counter) (m .state)))
+
+-- one step of a stored program
+abbrev pub stepOf : List ℕ → Machine → Machine
+stepOf p m = stepBy (lineAt p (m .run .counter)) m
+
+abbrev pub haltedAt : Machine → Outcome
+haltedAt m = outcome (halted (m .run .counter) (m .run .steps)) (m .state ∷ m .trace ∷ [])
+
+abbrev pub spentAt : Machine → Outcome
+spentAt m = outcome (spent (m .run .counter) (m .run .steps)) (m .state ∷ m .trace ∷ [])
+
+-- at most b more steps of a stored program of n lines
+unfoldable pub runFrom : List ℕ → ℕ → ℕ → Machine → Outcome
+runFrom p n zero m = cond (ltb (m .run .counter) n) (spentAt m) (haltedAt m)
+runFrom p n (suc b) m = cond (ltb (m .run .counter) n) (runFrom p n b (stepOf p m)) (haltedAt m)

@@ -1,0 +1,30 @@
+// A run's counter and step tally, and one step, which takes both and hands back both.
+ghost use mathlib.Core.Path.{_≡_};
+ghost use Prim.Native.Nat.{_+_, _*_, _≤_, _<_};
+ghost use lib.ListN.{length};
+ghost use Rattle.model.specs.Limits.{rowWidth};
+ghost use Rattle.machine.specs.Loop.{machine, stepOf};
+
+pub struct Run {
+    pub counter: u16,
+    pub steps: u16,
+}
+
+impl Run {
+    // One step of a stored program, with room in the trace store for its row.
+    pub fn step(self, program: &[u16], state: &mut [u8], trace: &mut [u16]) -> Run
+        requires { ⌜ (self .counter < 65535) × (self .steps < 65535) × (rowWidth * self .steps + rowWidth ≤ length (now trace)) ⌝ }
+        ensures { λ r. ⌜ machine r (now (state .exit)) (now (trace .exit)) ≡ stepOf (now (program .entry)) (machine self (now (state .entry)) (now (trace .entry))) ⌝ }
+    {
+        let counter = self.counter;
+        let steps = self.steps;
+        let line = coding::line_at(program, counter as usize);
+        let done = super::perform(line, counter, state);
+        let row = done.row;
+        super::write_row(trace, steps as usize, row);
+        Run {
+            counter: done.next,
+            steps: steps + 1,
+        }
+    }
+}

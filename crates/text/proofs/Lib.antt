@@ -1,0 +1,10 @@
+pub mod PartLaws
+pub mod DigitLaws
+pub mod FieldLaws
+pub mod OperandLaws
+pub mod LineLaws
+pub mod StoreLaws
+pub mod ReadLaws
+pub mod WroteLaws
+pub mod PrintLaws
+pub mod RoundTrip

@@ -1,0 +1,164 @@
+// The reader and the writer of program text: any bytes to stored lines, six numbers to a line, and a stored program to its text.
+ghost use mathlib.Core.Path.{_≡_};
+ghost use Prim.Native.Nat.{_+_, _*_, _≤_};
+ghost use mathlib.Core.List.{[], _∷_, flatMap};
+ghost use lib.ListN.{length, drop};
+ghost use lib.Seq.{sets};
+ghost use Rattle.model.specs.Answers.{report, outcome};
+ghost use Rattle.model.specs.Limits.{maxLines};
+ghost use Rattle.model.specs.Stored.{linesFrom};
+ghost use Rattle.model.specs.Text.{spellLine, frontLine, readOutcome, writeOutcome};
+ghost use Rattle.text.specs.Lines.{meaning, numbersOf};
+ghost use Rattle.text.specs.Writing.{Wrote, isRefusal};
+
+mod cut;
+mod fields;
+mod line;
+mod printing;
+
+use crate::cut::beyond;
+use crate::cut::find;
+use crate::line::front;
+use crate::line::refusal;
+use crate::printing::put_line;
+use coding::LINE_WIDTH;
+use coding::MAX_LINES;
+use coding::check_program;
+use coding::numbers_at;
+use model::Answer;
+
+// What reading a field finds: the field's stored number, or that its spelling is wrong.
+pub(crate) enum Field {
+    Is(u16),
+    Wrong,
+}
+
+// The six stored numbers of a line.
+pub struct Stored {
+    pub mark: u16,
+    pub opcode: u16,
+    pub destination: u16,
+    pub first: u16,
+    pub second: u16,
+    pub target: u16,
+}
+
+// What parsing a line finds: its numbers, or the number of the condition that holds.
+pub enum Parsed {
+    Line(Stored),
+    Refused(u8),
+}
+
+// The line at a position of a text.
+pub fn front_at(text: &[u8], at: usize) -> Parsed
+    ensures { λ r. ⌜ meaning r ≡ frontLine (drop at (now (text .entry))) ⌝ }
+{
+    if at <= text.len() {
+        let rest = &text[at..];
+        front(rest, find(rest, b'\n'))
+    } else {
+        Parsed::Refused(1)
+    }
+}
+
+// Stores the numbers of a line from an index on.
+fn keep(store: &mut [u16], at: usize, l: Stored)
+    requires { ⌜ at + 6 ≤ length (now store) ⌝ }
+    ensures { λ _. ⌜ now (store .exit) ≡ sets (now (store .entry)) at (numbersOf l) ⌝ }
+{
+    store[at] = l.mark;
+    store[at + 1] = l.opcode;
+    store[at + 2] = l.destination;
+    store[at + 3] = l.first;
+    store[at + 4] = l.second;
+    store[at + 5] = l.target;
+}
+
+// Reads the lines of a text into a store. Each line is read from the front, and the rest of the text is handed on as a part.
+pub fn read(text: &[u8], store: &mut [u16]) -> Answer
+    ensures { λ r. ⌜ outcome (report r) (now (store .exit) ∷ []) ≡ readOutcome (now (text .entry)) (now (store .entry)) ⌝ }
+{
+    let room = store.len() / LINE_WIDTH;
+    let mut rest = text;
+    let mut n: usize = 0;
+    while 0 < rest.len() {
+        if MAX_LINES <= n {
+            return Answer::Refused {
+                number: 7,
+                line: n as u16,
+            };
+        }
+        if room <= n {
+            return Answer::Refused {
+                number: 8,
+                line: n as u16,
+            };
+        }
+        let end = find(rest, b'\n');
+        let got = front(rest, end);
+        let Parsed::Line(l) = got else {
+            return Answer::Refused {
+                number: refusal(got),
+                line: n as u16,
+            };
+        };
+        keep(store, LINE_WIDTH * n, l);
+        let next = beyond(rest, end);
+        rest = next;
+        n += 1;
+    }
+    Answer::Count(n as u32)
+}
+
+// Writes the text of the first n lines, as far as there is room, and gives its length.
+fn print(program: &[u16], n: usize, out: &mut [u8]) -> usize
+    requires { ⌜ n ≤ maxLines ⌝ }
+    ensures { λ r. ⌜ Wrote (now (out .entry)) (now (out .exit)) 0 r (flatMap spellLine (linesFrom (now (program .entry)) 0 n)) (54 * n) ⌝ }
+{
+    let mut at: usize = 0;
+    let mut i: usize = 0;
+    while i < n {
+        let l = numbers_at(program, i);
+        at = put_line(out, at, l[0], l[1], l[2], l[3], l[4], l[5]);
+        i += 1;
+    }
+    at
+}
+
+// Whether an answer is a refusal.
+fn refuses(answer: Answer) -> bool
+    ensures { λ r. ⌜ r ≡ isRefusal answer ⌝ }
+{
+    match answer {
+        Answer::Count(_) => false,
+        Answer::Halted {
+            counter: _,
+            steps: _,
+        } => false,
+        Answer::Spent {
+            counter: _,
+            steps: _,
+        } => false,
+        Answer::Refused { number: _, line: _ } => true,
+    }
+}
+
+// Writes the text of a stored program. Printed into an empty part, nothing is touched and its length is known.
+pub fn write(program: &[u16], out: &mut [u8]) -> Answer
+    ensures { λ r. ⌜ outcome (report r) (now (out .exit) ∷ []) ≡ writeOutcome (now (program .entry)) (now (out .entry)) ⌝ }
+{
+    let checked = check_program(program);
+    if refuses(checked) {
+        return checked;
+    }
+    let n = program.len() / LINE_WIDTH;
+    let size = print(program, n, &mut out[..0]);
+    if out.len() < size {
+        return Answer::Refused {
+            number: 17,
+            line: 0,
+        };
+    }
+    let written = print(program, n, out);
+    Answer::Count(written as u32)
+}

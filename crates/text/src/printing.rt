@@ -1,0 +1,184 @@
+// The spelling of stored numbers, byte by byte. A byte is written where there is room and counted in any case, so that printing
+// into an empty part gives the length.
+ghost use mathlib.Core.List.{[], _∷_, _++_};
+ghost use Prim.Native.Nat.{_+_, _<_, _≤_};
+ghost use Rattle.model.specs.Stored.{markOf, opcodeOf, operandOf, targetOf, lineOf};
+ghost use Rattle.model.specs.Text.{comma, newline, digitAt, decimal, indirect, spellMark, spellOpcode, spellOperand, spellTarget, spellLine};
+ghost use Rattle.text.specs.Writing.{Wrote, printable};
+use coding::CELLS;
+use coding::LITERALS;
+use coding::OPCODES;
+use coding::PUBLICS;
+use coding::REGISTERS;
+use coding::SENSITIVES;
+use coding::TABLES;
+
+// A byte, where there is room.
+fn put(out: &mut [u8], at: usize, b: u8) -> usize
+    requires { ⌜ at + 1 ≤ printable ⌝ }
+    ensures { λ r. ⌜ Wrote (now (out .entry)) (now (out .exit)) at r (b ∷ []) 1 ⌝ }
+{
+    if at < out.len() {
+        out[at] = b;
+        return at + 1;
+    }
+    at + 1
+}
+
+// The digit of n at a power of ten, where n is not below it.
+fn put_digit(out: &mut [u8], at: usize, n: u16, p: u16) -> usize
+    requires { ⌜ (at + 1 ≤ printable) × (0 < p) ⌝ }
+    ensures { λ r. ⌜ Wrote (now (out .entry)) (now (out .exit)) at r (digitAt p n) 1 ⌝ }
+{
+    if n < p {
+        return at;
+    }
+    put(out, at, b'0' + (n / p % 10) as u8)
+}
+
+// A number in decimal.
+fn put_number(out: &mut [u8], at: usize, n: u16) -> usize
+    requires { ⌜ at + 5 ≤ printable ⌝ }
+    ensures { λ r. ⌜ Wrote (now (out .entry)) (now (out .exit)) at r (decimal n) 5 ⌝ }
+{
+    let a = put_digit(out, at, n, 10000);
+    let b = put_digit(out, a, n, 1000);
+    let c = put_digit(out, b, n, 100);
+    let d = put_digit(out, c, n, 10);
+    put(out, d, b'0' + (n % 10) as u8)
+}
+
+// A byte and a number.
+fn put_tagged(out: &mut [u8], at: usize, c: u8, n: u16) -> usize
+    requires { ⌜ at + 6 ≤ printable ⌝ }
+    ensures { λ r. ⌜ Wrote (now (out .entry)) (now (out .exit)) at r (c ∷ decimal n) 6 ⌝ }
+{
+    let a = put(out, at, c);
+    put_number(out, a, n)
+}
+
+// An indirect operand: a sign, the base and the offset.
+fn put_indirect(out: &mut [u8], at: usize, c: u8, b: u16, k: u16) -> usize
+    requires { ⌜ at + 13 ≤ printable ⌝ }
+    ensures { λ r. ⌜ Wrote (now (out .entry)) (now (out .exit)) at r (indirect c b k) 13 ⌝ }
+{
+    let x = put(out, at, c);
+    let y = put_tagged(out, x, b'r', b);
+    put_tagged(out, y, b'+', k)
+}
+
+// An operand's number; 0 is an empty field.
+fn put_operand(out: &mut [u8], at: usize, k: u16) -> usize
+    requires { ⌜ at + 13 ≤ printable ⌝ }
+    ensures { λ r. ⌜ Wrote (now (out .entry)) (now (out .exit)) at r (spellOperand (operandOf k)) 13 ⌝ }
+{
+    if k < LITERALS {
+        return at;
+    }
+    if k < REGISTERS {
+        return put_tagged(out, at, b'#', k - LITERALS);
+    }
+    if k < CELLS {
+        return put_tagged(out, at, b'r', k - REGISTERS);
+    }
+    if k < PUBLICS {
+        return put_tagged(out, at, b'@', k - CELLS);
+    }
+    if k < SENSITIVES {
+        let n = k - PUBLICS;
+        return put_indirect(out, at, b'!', n / 128, n % 128);
+    }
+    if k < TABLES {
+        let n = k - SENSITIVES;
+        return put_indirect(out, at, b'%', n / 128, n % 128);
+    }
+    let n = k - TABLES;
+    put_indirect(out, at, b'^', n / 256, n % 256)
+}
+
+// A target's number; 0 is an empty field.
+fn put_target(out: &mut [u8], at: usize, k: u16) -> usize
+    requires { ⌜ at + 5 ≤ printable ⌝ }
+    ensures { λ r. ⌜ Wrote (now (out .entry)) (now (out .exit)) at r (spellTarget (targetOf k)) 5 ⌝ }
+{
+    if k == 0 {
+        return at;
+    }
+    put_number(out, at, k - 1)
+}
+
+// A mark's number.
+fn put_mark(out: &mut [u8], at: usize, k: u16) -> usize
+    requires { ⌜ at + 1 ≤ printable ⌝ }
+    ensures { λ r. ⌜ Wrote (now (out .entry)) (now (out .exit)) at r (spellMark (markOf k)) 1 ⌝ }
+{
+    if k == 0 {
+        return put(out, at, b'u');
+    }
+    put(out, at, b's')
+}
+
+// The name of opcode k.
+fn put_letters(out: &mut [u8], at: usize, k: usize) -> usize
+    requires { ⌜ (at + 3 ≤ printable) × (k < 13) ⌝ }
+    ensures { λ r. ⌜ Wrote (now (out .entry)) (now (out .exit)) at r (spellOpcode (opcodeOf k)) 3 ⌝ }
+{
+    let names = b"nopjmpnotmovandorrxorlsllsraddmulbeqbne";
+    let i = 3 * k;
+    let a = put(out, at, names[i]);
+    let b = put(out, a, names[i + 1]);
+    put(out, b, names[i + 2])
+}
+
+// An opcode's number.
+fn put_opcode(out: &mut [u8], at: usize, k: u16) -> usize
+    requires { ⌜ at + 3 ≤ printable ⌝ }
+    ensures { λ r. ⌜ Wrote (now (out .entry)) (now (out .exit)) at r (spellOpcode (opcodeOf k)) 3 ⌝ }
+{
+    if k < OPCODES {
+        return put_letters(out, at, k as usize);
+    }
+    put_letters(out, at, 0)
+}
+
+// A comma and an operand.
+fn put_listed(out: &mut [u8], at: usize, k: u16) -> usize
+    requires { ⌜ at + 14 ≤ printable ⌝ }
+    ensures { λ r. ⌜ Wrote (now (out .entry)) (now (out .exit)) at r (comma ∷ spellOperand (operandOf k)) 14 ⌝ }
+{
+    let a = put(out, at, b',');
+    put_operand(out, a, k)
+}
+
+// The last three fields, each after its comma, and the newline.
+fn put_rest(out: &mut [u8], at: usize, a: u16, b: u16, t: u16) -> usize
+    requires { ⌜ at + 35 ≤ printable ⌝ }
+    ensures { λ r. ⌜ Wrote (now (out .entry)) (now (out .exit)) at r (comma ∷ (spellOperand (operandOf a) ++ (comma ∷ (spellOperand (operandOf b) ++ (comma ∷ (spellTarget (targetOf t) ++ (newline ∷ []))))))) 35 ⌝ }
+{
+    let d = put_listed(out, at, a);
+    let e = put_listed(out, d, b);
+    let f = put(out, e, b',');
+    let g = put_target(out, f, t);
+    put(out, g, b'\n')
+}
+
+// A line with its newline.
+pub(crate) fn put_line(
+    out: &mut [u8],
+    at: usize,
+    m: u16,
+    o: u16,
+    d: u16,
+    a: u16,
+    b: u16,
+    t: u16,
+) -> usize
+    requires { ⌜ at + 54 ≤ printable ⌝ }
+    ensures { λ r. ⌜ Wrote (now (out .entry)) (now (out .exit)) at r (spellLine (lineOf m o d a b t)) 54 ⌝ }
+{
+    let marked = put_mark(out, at, m);
+    let parted = put(out, marked, b',');
+    let named = put_opcode(out, parted, o);
+    let placed = put_listed(out, named, d);
+    put_rest(out, placed, a, b, t)
+}
