@@ -6,5 +6,6 @@ pub mod LineLaws
 pub mod StoreLaws
 pub mod ReadLaws
 pub mod WroteLaws
+pub mod SizeLaws
 pub mod PrintLaws
 pub mod RoundTrip

@@ -1,4 +1,4 @@
--- Printing the lines of a program, one after another: what is left to print, after the bytes so far, always gives the whole text.
+-- The lines of a program, counted and printed one after another: what is left, after the bytes so far, always gives the whole text.
 -- Assumes nothing.
 use Prim.Native.Nat.{ℕ, suc, _+_, _-_, _*_, _≤_, _<_}
 use mathlib.Core.Bool.{Bool, true, false, cond, false≢true}
@@ -6,7 +6,7 @@ use mathlib.Core.Path.{_≡_, refl, sym, ap, _∙_}
 use mathlib.Core.List.{List, [], _∷_, _++_, flatMap}
 use native.Mathlib.Omega.{arith}
 use native.Mathlib.Nat.{zero-add}
-use lib.ListN.{length}
+use lib.ListN.{length, length-append}
 use lib.Seq.{sets}
 use lib.Dec.{ltb}
 use borrow.Author.Tests.{lt-ltb, le-ltb}
@@ -18,7 +18,7 @@ use Rattle.model.specs.Stored.{lineAt, lineCount, linesFrom, programCheck}
 use Rattle.model.specs.Text.{spellLine, textOf, writeOutcome}
 use Rattle.model.proofs.StoredLaws.{CheckAnswer, accepts, refuses, check-answer, program-checked}
 use Rattle.text.specs.Writing.{Wrote, isRefusal}
-use Rattle.text.proofs.WroteLaws.{wrote-sets, wrote-length}
+use Rattle.text.proofs.WroteLaws.{wrote-sets}
 
 -- the text of m lines from line i on
 abbrev pub textFrom : List ℕ → ℕ → ℕ → List ℕ
@@ -38,44 +38,51 @@ text-end : (p : List ℕ) (n i : ℕ) → n - i ≡ 0 → textFrom p i (n - i) �
 unfolding flatMap linesFrom
 text-end p n i h = rw h
 
--- i of n lines are printed, up to a place
-pub record Printed (p old out : List ℕ) (n at i : ℕ) : Type 0 where
+-- i of n lines end at a place
+pub record Sized (p : List ℕ) (n at i : ℕ) : Type 0 where
   pub few : i ≤ n
   pub near : at ≤ 54 * i
-  pub long : length out ≡ length old
-  pub bytes : sets out at (textFrom p i (n - i)) ≡ sets old 0 (textFrom p 0 n)
   pub after : at + length (textFrom p i (n - i)) ≡ length (textFrom p 0 n)
 
+pub sized-none : (p : List ℕ) (n : ℕ) → Sized p n 0 0
+sized-none p n = record { few = omega arith; near = omega arith; after = zero-add _ ∙ ap (λ (k : ℕ). length (textFrom p 0 k)) (minus-0 n) }
+
+module _ (p : List ℕ) (n at i : ℕ) (q : Sized p n at i) where
+  pub sized-next : i < n → (next : ℕ) → next ≡ at + length (spellLine (lineAt p i)) → next ≤ at + 54 → Sized p n next (i + 1)
+  sized-next h next e l =
+      let rest : List ℕ = textFrom p (i + 1) (n - (i + 1)) in
+      let all : at + length (spellLine (lineAt p i) ++ rest) ≡ length (textFrom p 0 n) = ap (λ (t : List ℕ). at + length t) (sym (text-next p n i h)) ∙ q .after in
+      record { few = omega arith; near = omega (arith, q .near); after = omega (arith, all, length-append (spellLine (lineAt p i)) rest) }
+
+  pub sized-all : n ≤ i → at ≡ length (textFrom p 0 n)
+  sized-all h = let e : textFrom p i (n - i) ≡ [] = text-end p n i (omega arith) in omega (arith, ap length e, q .after)
+
+-- i of n lines are printed, up to a place
+pub record Printed (p old out : List ℕ) (n at i : ℕ) : Type 0 where
+  pub size : Sized p n at i
+  pub long : length out ≡ length old
+  pub bytes : sets out at (textFrom p i (n - i)) ≡ sets old 0 (textFrom p 0 n)
+
 pub printed-none : (p old : List ℕ) (n : ℕ) → Printed p old old n 0 0
-printed-none p old n =
-    record {
-      few = omega arith;
-      near = omega arith;
-      long = refl;
-      bytes = ap (λ (k : ℕ). sets old 0 (textFrom p 0 k)) (minus-0 n);
-      after = zero-add _ ∙ ap (λ (k : ℕ). length (textFrom p 0 k)) (minus-0 n);
-    }
+printed-none p old n = record { size = sized-none p n; long = refl; bytes = ap (λ (k : ℕ). sets old 0 (textFrom p 0 k)) (minus-0 n) }
 
 module _ (p old out : List ℕ) (n at i : ℕ) (q : Printed p old out n at i) where
   pub printed-next : i < n → {new : List ℕ} {next : ℕ} → Wrote out new at next (spellLine (lineAt p i)) 54 → length new ≡ length out → Printed p old new n next (i + 1)
   printed-next h {new} {next} w long =
-      let rest : List ℕ = textFrom p (i + 1) (n - (i + 1)) in
       record {
-        few = omega arith;
-        near = omega (arith, w .near, q .near);
+        size = sized-next p n at i (q .size) h next (w .after) (w .near);
         long = long ∙ q .long;
-        bytes = wrote-sets w rest ∙ ap (sets out at) (sym (text-next p n i h)) ∙ q .bytes;
-        after = wrote-length w rest ∙ ap (λ (t : List ℕ). at + length t) (sym (text-next p n i h)) ∙ q .after;
+        bytes = wrote-sets w (textFrom p (i + 1) (n - (i + 1))) ∙ ap (sets out at) (sym (text-next p n i h)) ∙ q .bytes;
       }
 
   pub printed-all : n ≤ i → Wrote old out 0 at (textFrom p 0 n) (54 * n)
   printed-all h =
       let e : textFrom p i (n - i) ≡ [] = text-end p n i (omega arith) in
-      let few : i ≤ n = q .few in
+      let few : i ≤ n = q .size .few in
       record {
         bytes = ap (sets out at) (sym e) ∙ q .bytes;
-        after = omega (arith, ap length e, q .after);
-        near = omega (arith, q .near);
+        after = sized-all p n at i (q .size) h ∙ sym (zero-add _);
+        near = omega (arith, q .size .near);
       }
 
 -- ---- the answer of a writing

@@ -1,19 +1,16 @@
 -- One text written after another. Assumes nothing.
 use Prim.Native.Nat.{ℕ, _+_, _≤_}
 use mathlib.Core.Path.{_≡_, refl, ap, _∙_}
-use mathlib.Core.List.{List, [], _∷_, _++_}
+use mathlib.Core.List.{List, [], _++_}
 use native.Mathlib.Omega.{arith}
 use lib.ListN.{length, length-append}
-use lib.Seq.{sets, length-sets}
+use lib.Seq.{sets}
 use Rattle.text.specs.Writing.{Wrote}
 use Rattle.text.proofs.StoreLaws.{sets-append}
 
 module _ {o p : List ℕ} {a b : ℕ} {x : List ℕ} {m : ℕ} (w : Wrote o p a b x m) (y : List ℕ) where
   pub wrote-sets : sets p b y ≡ sets o a (x ++ y)
   wrote-sets = ap (λ (l : List ℕ). sets l b y) (w .bytes) ∙ ap (λ (i : ℕ). sets (sets o a x) i y) (w .after) ∙ sets-append o a x y
-
-  pub wrote-length : b + length y ≡ a + length (x ++ y)
-  wrote-length = omega (arith, w .after, length-append x y)
 
 module _ {o p q : List ℕ} {a b c : ℕ} {x y : List ℕ} {m k : ℕ} where
   pub then : Wrote o p a b x m → Wrote p q b c y k → Wrote o q a c (x ++ y) (m + k)
@@ -34,11 +31,3 @@ as-text {o} {p} {a} {b} {x} {y} {m} e w =
 
 pub at-most : {o p : List ℕ} {a b : ℕ} {x : List ℕ} {m k : ℕ} → m ≤ k → Wrote o p a b x m → Wrote o p a b x k
 at-most h w = record { bytes = w .bytes; after = w .after; near = omega (arith, w .near) }
-
--- nothing is written to an empty part
-empty : (l : List ℕ) → length l ≡ 0 → l ≡ []
-empty [] e = refl
-empty (a ∷ l) e = absurd (omega arith)
-
-pub wrote-none : (o p : List ℕ) (b : ℕ) (x : List ℕ) (m : ℕ) → Wrote o p 0 b x m → length o ≡ 0 → p ≡ []
-wrote-none o p b x m w e = empty p (ap length (w .bytes) ∙ length-sets o 0 x ∙ e)

@@ -15,12 +15,14 @@ mod cut;
 mod fields;
 mod line;
 mod printing;
+mod size;
 
 use crate::cut::beyond;
 use crate::cut::find;
 use crate::line::front;
 use crate::line::refusal;
 use crate::printing::put_line;
+use crate::size::text_size;
 use coding::LINE_WIDTH;
 use coding::MAX_LINES;
 use coding::check_program;
@@ -143,7 +145,7 @@ fn refuses(answer: Answer) -> bool
     }
 }
 
-// Writes the text of a stored program. Printed into an empty part, nothing is touched and its length is known.
+// Writes the text of a stored program, whose length is known before a byte is written.
 pub fn write(program: &[u16], out: &mut [u8]) -> Answer
     ensures { λ r. ⌜ outcome (report r) (now (out .exit) ∷ []) ≡ writeOutcome (now (program .entry)) (now (out .entry)) ⌝ }
 {
@@ -152,7 +154,7 @@ pub fn write(program: &[u16], out: &mut [u8]) -> Answer
         return checked;
     }
     let n = program.len() / LINE_WIDTH;
-    let size = print(program, n, &mut out[..0]);
+    let size = text_size(program, n);
     if out.len() < size {
         return Answer::Refused {
             number: 17,

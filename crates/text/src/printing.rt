@@ -1,5 +1,4 @@
-// The spelling of stored numbers, byte by byte. A byte is written where there is room and counted in any case, so that printing
-// into an empty part gives the length.
+// The spelling of stored numbers, byte by byte. A byte is written where there is room, so that no function here asks for room.
 ghost use mathlib.Core.List.{[], _∷_, _++_};
 ghost use Prim.Native.Nat.{_+_, _<_, _≤_};
 ghost use Rattle.model.specs.Stored.{markOf, opcodeOf, operandOf, targetOf, lineOf};

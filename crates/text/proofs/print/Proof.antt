@@ -44,7 +44,7 @@ array-read-put-line-6 : tie.Need-array-read-put-line-6 Inv-loop μ-loop
 array-read-put-line-6 c = search needs
 
 put-line-requires : tie.Need-put-line-requires Inv-loop μ-loop
-put-line-requires c κs = omega (arith, c .before .before .before .loop .inv .near, c .before .before .before .loop .inv .few, c .before .before .before .before .before .before .pre)
+put-line-requires c κs = omega (arith, c .before .before .before .loop .inv .size .near, c .before .before .before .loop .inv .size .few, c .before .before .before .before .before .before .pre)
 
 add-i : tie.Need-add-i Inv-loop μ-loop
 add-i c = search needs

@@ -1,5 +1,4 @@
 -- `text::fields::shape` meets its contract. Assumes nothing.
-use borrow.Author.Needs.{needs}
 use borrow.Author.Tests.{eq-eqb, ne-eqb, lt-ltb, le-ltb}
 use Rattle.text.specs.Fields.{shapeOf}
 use Rattle.text.proofs.fields.shape.Statement.{statement}

@@ -1,0 +1,187 @@
+-- From the claims over the definitions to the calls: a call that was not refused is the definition's expansion, image or run, and a stored
+-- expansion is read back as its lines. Assumes nothing.
+use mathlib.Core.Path.{_≡_, refl, sym, ap, ap₂, _∙_, subst, subst₂}
+use mathlib.Core.Bool.{Bool, true, false, cond}
+use mathlib.Core.List.{List, [], _∷_, _++_, flatMap}
+use Prim.Native.Nat.{ℕ, _+_, _*_, _≤_, _<_}
+use native.Mathlib.Omega.{arith}
+use borrow.Author.Tests.{le-ltb, eq-eqb}
+use lib.Dec.{T, ltb, eqb}
+use lib.ListN.{length, take, drop, getD}
+use lib.Seq.{take-at}
+use Rattle.model.specs.declared.Line.{Line}
+use Rattle.model.specs.Limits.{stateSize, lineWidth, rowWidth}
+use Rattle.model.specs.Answers.{Report, done, refused, counted, Outcome, outcome, atFront}
+use Rattle.model.specs.Places.{State}
+use Rattle.model.specs.Stored.{codes, lineCount, lines, programCheck}
+use Rattle.model.specs.Step.{Row}
+use Rattle.model.specs.Run.{Ran, run, answer, runLeaves, runOutcome}
+use Rattle.model.specs.Images.{BitState, SamePublic, ButScratch, image, back, every, imageRight, mapAt, imageAt, carried, fromImageOutcome}
+use Rattle.model.specs.Expansion.{start, expand}
+use Rattle.model.specs.Marks.{markCheck, markFault, firstBad, marksOf, Accepted}
+use Rattle.model.specs.Claims.{span}
+use Rattle.model.proofs.TestLaws.{is-true}
+use Rattle.model.proofs.PlaceLaws.{mapAt-length}
+use Rattle.model.proofs.StoredLaws.{codes-length, CheckAnswer, accepts, refuses, check-answer, length-lines}
+use Rattle.model.proofs.ExpansionLaws.{mark-accepted, expansion-check, expansion-lines}
+use Rattle.model.proofs.BackLaws.{back-image, image-passes}
+use Rattle.model.proofs.OutcomeLaws.{Written, expansion-written, image-made}
+use Rattle.model.proofs.DemandThree.{equal-traces, correspondence}
+use Rattle.balance.specs.EntryClaims.{Expanded, Imaged, listing, SameCalls, EqualTraceStores, FollowingCalls, SourceFollowed}
+
+-- ---- the mark check's success is the line count
+
+never-done : {k l : ℕ} {vs : List ℕ} → refused k l ≡ done vs → ⊥
+never-done e = let z : _≡_ {A = ℕ} 0 1 = cc in omega arith
+
+bad-or-count : (n i : ℕ) (p : List Line) (vs : List ℕ) → firstBad n i p ≡ done vs → firstBad n i p ≡ counted n
+unfolding firstBad
+bad-or-count n i [] vs e = refl
+bad-or-count n i (l ∷ p) vs e = go (eqb (markFault n l) 0) (λ q. bad-or-count n (i + 1) p vs q) e
+  where
+    go : (t : Bool) → (firstBad n (i + 1) p ≡ done vs → firstBad n (i + 1) p ≡ counted n)
+        → cond t (firstBad n (i + 1) p) (refused (markFault n l) i) ≡ done vs → cond t (firstBad n (i + 1) p) (refused (markFault n l) i) ≡ counted n
+    go true ih e = ih e
+    go false ih e = absurd (never-done e)
+
+marks-count : (p : List Line) (vs : List ℕ) → marksOf p ≡ done vs → marksOf p ≡ counted (length p)
+unfolding marksOf
+marks-count p vs e = go (ltb 1024 (length p)) e
+  where
+    go : (t : Bool) → cond t (refused 9 0) (firstBad (length p) 0 p) ≡ done vs → cond t (refused 9 0) (firstBad (length p) 0 p) ≡ counted (length p)
+    go true e = absurd (never-done e)
+    go false e = bad-or-count (length p) 0 p vs e
+
+-- a program that `expand` did not refuse: checked, and accepted
+record Good (p : List ℕ) : Type 0 where
+  checked : programCheck p ≡ counted (lineCount p)
+  accepted : Accepted (lines p)
+
+good : (p vs : List ℕ) → markCheck p ≡ done vs → Good p
+unfolding markCheck
+good p vs e = go (check-answer p) refl
+  where
+    go : {r : Report} → CheckAnswer p r → programCheck p ≡ r → Good p
+    go (accepts q) w =
+        let c : programCheck p ≡ counted (lineCount p) = w ∙ q in
+        let m : marksOf (lines p) ≡ counted (length (lines p)) = marks-count (lines p) vs (rw c at e) in
+        record { checked = c; accepted = mark-accepted p (length (lines p)) (rw c m) }
+    go (refuses k i q) w = absurd (never-done (rw (w ∙ q) at e))
+
+-- ---- what `expand` wrote is a stored program whose lines are the expansion
+
+record Listed (p e : List ℕ) (n : ℕ) : Type 0 where
+  source : programCheck p ≡ counted (lineCount p)
+  accepted : Accepted (lines p)
+  checked : programCheck (listing e n) ≡ counted (length (expand (lines p)))
+  lines-are : lines (listing e n) ≡ expand (lines p)
+
+listed : (p e : List ℕ) (n : ℕ) → Expanded p e n → Listed p e n
+listed p e n E =
+    let W = expansion-written p (E .lent) n e (E .call) in
+    let G = good p (W .values) (W .checked) in
+    let c = flatMap codes (expand (lines p)) in
+    let long : length c ≡ lineWidth * n = codes-length (expand (lines p)) ∙ ap (λ (m : ℕ). lineWidth * m) (sym (W .count)) in
+    let is : listing e n ≡ c = ap (take (lineWidth * n)) (W .listing) ∙ take-at c (drop (length c) (E .lent)) (lineWidth * n) long in
+    record {
+      source = G .checked;
+      accepted = G .accepted;
+      checked = ap programCheck is ∙ expansion-check (lines p) (G .accepted);
+      lines-are = ap lines is ∙ expansion-lines (lines p) (G .accepted);
+    }
+
+-- ---- a call of `run` that is not refused
+
+run-goes : (q : List ℕ) (k b n : ℕ) (s : State) (x : List ℕ) → programCheck q ≡ counted n → length s ≡ stateSize → rowWidth * b ≤ length x
+    → runOutcome q k b s x ≡ runLeaves (lines q) (run (lines q) b k s) x
+unfolding runOutcome
+run-goes q k b n s x e l h = rw (e, eq-eqb (length s) stateSize l, le-ltb (length x) (rowWidth * b) h)
+
+image-length : (s : State) → BitState s → length (image s) ≡ stateSize
+unfolding image
+image-length s b = mapAt-length imageAt 0 s ∙ b .long
+
+-- the ending, 0 or 1, that an answer begins with
+ending : List Line → Ran → ℕ
+ending p r = cond (ltb (r .at) (length p)) 1 0
+
+answer-is : (p : List Line) (r : Ran) → answer p r ≡ done (ending p r ∷ r .at ∷ length (r .rows) ∷ [])
+unfolding answer ending
+answer-is p r = go (ltb (r .at) (length p))
+  where
+    go : (t : Bool) → cond t (done (1 ∷ r .at ∷ length (r .rows) ∷ [])) (done (0 ∷ r .at ∷ length (r .rows) ∷ [])) ≡ done (cond t 1 0 ∷ r .at ∷ length (r .rows) ∷ [])
+    go true = refl
+    go false = refl
+
+leaves-is : (p : List Line) (r : Ran) (x : List ℕ)
+    → runLeaves p r x ≡ outcome (done (ending p r ∷ r .at ∷ length (r .rows) ∷ [])) (r .state ∷ atFront (flatMap (λ q. q) (r .rows)) x ∷ [])
+unfolding runLeaves
+leaves-is p r x = ap (λ (a : Report). outcome a (r .state ∷ atFront (flatMap (λ q. q) (r .rows)) x ∷ [])) (answer-is p r)
+
+-- ---- (a)
+
+pub equal-trace-stores : EqualTraceStores
+equal-trace-stores p e n E s t v w S U same k b x y hx hy =
+    let L = listed p e n E in
+    let A = image-made s (S .lent) v _ (S .call) in
+    let B = image-made t (U .lent) w _ (U .call) in
+    let q = expand (lines p) in
+    let i = start (lines p) k in
+    let one = run q b i (image s) in
+    let other = run q b i (image t) in
+    let R = equal-traces (lines p) (L .accepted) k b s t (A .0) (B .0) same in
+    let call : (u u′ : State) (z : List ℕ) → u′ ≡ image u → BitState u → rowWidth * b ≤ length z → runOutcome (listing e n) i b u′ z ≡ runLeaves q (run q b i (image u)) z =
+    λ u u′ z eu bu hz.
+    ap (λ (a : State). runOutcome (listing e n) i b a z) eu
+    ∙ run-goes (listing e n) i b (length q) (image u) z (L .checked) (image-length u bu) hz
+    ∙ ap (λ (a : List Line). runLeaves a (run a b i (image u)) z) (L .lines-are) in
+    let answers : answer q one ≡ answer q other = R .answers in
+    let rows : flatMap (λ r. r) (other .rows) ≡ flatMap (λ r. r) (one .rows) = ap (flatMap (λ r. r)) (sym (R .traces)) in
+    record {
+      values = ending q one ∷ one .at ∷ length (one .rows) ∷ [];
+      rows = flatMap (λ r. r) (one .rows);
+      stateOne = one .state;
+      stateOther = other .state;
+      oneCall = call s v x (A .1) (A .0) hx ∙ leaves-is q one x;
+      otherCall =
+          call t w y (B .1) (B .0) hy ∙ leaves-is q other y
+          ∙ ap₂ (λ (a : Report) (r : List ℕ). outcome a (other .state ∷ atFront r y ∷ [])) (sym (answer-is q other) ∙ sym answers ∙ answer-is q one) rows;
+    }
+
+-- ---- (b)
+
+back-goes : (s v lent : State) → BitState s → ButScratch v (image s) → length lent ≡ stateSize → fromImageOutcome v lent ≡ outcome (counted stateSize) (s ∷ [])
+unfolding carried ButScratch
+back-goes s v lent b h l =
+    rw (eq-eqb (length v) stateSize (h .0 ∙ image-length s b), eq-eqb (length lent) stateSize l, is-true (every imageRight 0 v) (image-passes s v b h))
+    (ap (λ (z : State). outcome (counted stateSize) (z ∷ [])) (back-image s v b h))
+
+pub source-followed : SourceFollowed
+source-followed p e n E s v S k m x y hx hy =
+    let L = listed p e n E in
+    let A = image-made s (S .lent) v _ (S .call) in
+    let q = expand (lines p) in
+    let i = start (lines p) k in
+    let b = span (lines p) m k s in
+    let source = run (lines p) m k s in
+    let expansion = run q b i (image s) in
+    let F = correspondence (lines p) (L .accepted) k m s (A .0) in
+    record {
+      ending = ending (lines p) source;
+      counter = source .at;
+      steps = length (source .rows);
+      bits = source .state;
+      trace = atFront (flatMap (λ r. r) (source .rows)) x;
+      endingExpanded = ending q expansion;
+      state = expansion .state;
+      traceExpanded = atFront (flatMap (λ r. r) (expansion .rows)) y;
+      sourceCall = run-goes p k m (lineCount p) s x (L .source) (A .0 .long) hx ∙ leaves-is (lines p) source x;
+      expansionCall =
+          ap (λ (a : State). runOutcome (listing e n) i b a y) (A .1)
+          ∙ run-goes (listing e n) i b (length q) (image s) y (L .checked) (image-length s (A .0)) hy
+          ∙ ap (λ (a : List Line). runLeaves a (run a b i (image s)) y) (L .lines-are)
+          ∙ leaves-is q expansion y
+          ∙ ap₂ (λ (c l : ℕ). outcome (done (ending q expansion ∷ c ∷ l ∷ [])) (expansion .state ∷ atFront (flatMap (λ r. r) (expansion .rows)) y ∷ [])) (F .stands) (F .steps);
+      image = F .holds;
+      back = λ lent l. back-goes (source .state) (expansion .state) lent (F .bits) (F .holds) l;
+    }

@@ -1,0 +1,103 @@
+// The entry points for C and Rust: numbers and slices, a slice as a pointer and then a length, an answer as one u64 (specs/Packing).
+// Nothing here allocates, and an empty slice may have any pointer. include/dualrail.h declares these functions.
+ghost use mathlib.Core.Path.{_≡_};
+ghost use mathlib.Core.List.{[], _∷_};
+ghost use Rattle.model.specs.Answers.{report};
+ghost use Rattle.model.specs.Text.{readOutcome, writeOutcome};
+ghost use Rattle.model.specs.Marks.{markCheck};
+ghost use Rattle.model.specs.Expansion.{expandOutcome};
+ghost use Rattle.model.specs.Images.{toImageOutcome, fromImageOutcome};
+ghost use Rattle.model.specs.Run.{runOutcome};
+ghost use Rattle.dualrail.specs.Packing.{packed, packedRun};
+use model::Answer;
+
+fn pack(answer: Answer) -> u64
+    ensures { λ r. ⌜ r ≡ packed (report answer) ⌝ }
+{
+    match answer {
+        Answer::Count(n) => n as u64,
+        Answer::Halted {
+            counter: _,
+            steps: _,
+        } => 0,
+        Answer::Spent {
+            counter: _,
+            steps: _,
+        } => 1,
+        Answer::Refused { number, line } => (number as u64) * 4294967296 + (line as u64),
+    }
+}
+
+fn pack_run(answer: Answer) -> u64
+    ensures { λ r. ⌜ r ≡ packedRun (report answer) ⌝ }
+{
+    match answer {
+        Answer::Count(n) => (n as u64) * 4294967296,
+        Answer::Halted { counter, steps } => (counter as u64) * 65536 + (steps as u64),
+        Answer::Spent { counter, steps } => {
+            4294967296 + (counter as u64) * 65536 + (steps as u64)
+        }
+        Answer::Refused { number, line } => { (number as u64) * 281474976710656 + (line as u64) }
+    }
+}
+
+#[no_mangle]
+pub extern "C" fn dualrail_read(text: &[u8], store: &mut [u16]) -> u64
+    ensures { λ r. ⌜ r ≡ packed (readOutcome (now (text .entry)) (now (store .entry)) .answer) ⌝ }
+    ensures { λ _. ⌜ now (store .exit) ∷ [] ≡ readOutcome (now (text .entry)) (now (store .entry)) .stores ⌝ }
+{
+    pack(text::read(text, store))
+}
+
+#[no_mangle]
+pub extern "C" fn dualrail_write(program: &[u16], out: &mut [u8]) -> u64
+    ensures { λ r. ⌜ r ≡ packed (writeOutcome (now (program .entry)) (now (out .entry)) .answer) ⌝ }
+    ensures { λ _. ⌜ now (out .exit) ∷ [] ≡ writeOutcome (now (program .entry)) (now (out .entry)) .stores ⌝ }
+{
+    pack(text::write(program, out))
+}
+
+#[no_mangle]
+pub extern "C" fn dualrail_check(program: &[u16]) -> u64
+    ensures { λ r. ⌜ r ≡ packed (markCheck (now (program .entry))) ⌝ }
+{
+    pack(expander::check(program))
+}
+
+#[no_mangle]
+pub extern "C" fn dualrail_expand(program: &[u16], out: &mut [u16]) -> u64
+    ensures { λ r. ⌜ r ≡ packed (expandOutcome (now (program .entry)) (now (out .entry)) .answer) ⌝ }
+    ensures { λ _. ⌜ now (out .exit) ∷ [] ≡ expandOutcome (now (program .entry)) (now (out .entry)) .stores ⌝ }
+{
+    pack(expander::expand(program, out))
+}
+
+#[no_mangle]
+pub extern "C" fn dualrail_to_image(bits: &[u8], image: &mut [u8]) -> u64
+    ensures { λ r. ⌜ r ≡ packed (toImageOutcome (now (bits .entry)) (now (image .entry)) .answer) ⌝ }
+    ensures { λ _. ⌜ now (image .exit) ∷ [] ≡ toImageOutcome (now (bits .entry)) (now (image .entry)) .stores ⌝ }
+{
+    pack(images::to_image(bits, image))
+}
+
+#[no_mangle]
+pub extern "C" fn dualrail_from_image(image: &[u8], bits: &mut [u8]) -> u64
+    ensures { λ r. ⌜ r ≡ packed (fromImageOutcome (now (image .entry)) (now (bits .entry)) .answer) ⌝ }
+    ensures { λ _. ⌜ now (bits .exit) ∷ [] ≡ fromImageOutcome (now (image .entry)) (now (bits .entry)) .stores ⌝ }
+{
+    pack(images::from_image(image, bits))
+}
+
+#[no_mangle]
+pub extern "C" fn dualrail_run(
+    program: &[u16],
+    start: u16,
+    budget: u16,
+    state: &mut [u8],
+    trace: &mut [u16],
+) -> u64
+    ensures { λ r. ⌜ r ≡ packedRun (runOutcome (now (program .entry)) start budget (now (state .entry)) (now (trace .entry)) .answer) ⌝ }
+    ensures { λ _. ⌜ now (state .exit) ∷ now (trace .exit) ∷ [] ≡ runOutcome (now (program .entry)) start budget (now (state .entry)) (now (trace .entry)) .stores ⌝ }
+{
+    pack_run(machine::run(program, start, budget, state, trace))
+}
