@@ -1,0 +1,163 @@
+//! Times the library against plain C (bench/plain.c, cc -O2) in one process, on
+//! the same inputs, and prints the ratios of the medians.
+
+use dualrail::paper::{SIX, STATE};
+use dualrail::plain::Plain;
+use dualrail::simon;
+use dualrail::{Answer, Dualrail, Library};
+use std::hint::black_box;
+use std::time::Instant;
+
+const REPEATS: usize = 301;
+
+fn median(mut times: Vec<f64>) -> f64 {
+    times.sort_by(f64::total_cmp);
+    times[times.len() / 2]
+}
+
+/// The memory of one side: each has its own, of the same contents.
+#[derive(Clone, PartialEq)]
+struct Memory {
+    bytes: Vec<u8>,
+    numbers: Vec<u16>,
+    state: Vec<u8>,
+}
+
+impl Memory {
+    fn new() -> Memory {
+        let mut state = vec![0; STATE];
+        Library.to_image(&simon::load(simon::KEY, simon::PLAINTEXT), &mut state);
+        Memory { bytes: vec![0; 560_000], numbers: vec![0; 400_000], state }
+    }
+}
+
+type Job<'a> = &'a dyn Fn(&dyn Dualrail, &mut Memory) -> Answer;
+
+fn time(job: Job, on: &dyn Dualrail, memory: &mut Memory) -> (f64, Answer) {
+    let begin = Instant::now();
+    let answer = black_box(job(on, memory));
+    (begin.elapsed().as_secs_f64() * 1e6, answer)
+}
+
+fn judged(ratio: f64, goal: f64) -> String {
+    format!("{ratio:8.2} {goal:6.1}{}", if ratio > goal { "  missed" } else { "" })
+}
+
+/// Times a job on both sides by turns; prints the medians in microseconds, their
+/// ratio and the goal for it, and gives the library's median.
+fn measure(name: &str, goal: f64, job: Job) -> f64 {
+    let (mut ours, mut theirs) = (Memory::new(), Memory::new());
+    let (mut library, mut plain) = (vec![], vec![]);
+    for turn in 0..REPEATS + 10 {
+        // Who goes first changes from turn to turn.
+        let (mine, other);
+        if turn % 2 == 0 {
+            mine = time(job, &Library, &mut ours);
+            other = time(job, &Plain, &mut theirs);
+        } else {
+            other = time(job, &Plain, &mut theirs);
+            mine = time(job, &Library, &mut ours);
+        }
+        assert_eq!(mine.1, other.1, "{name}: the answers differ");
+        assert!(!matches!(mine.1, Answer::Refused { .. }), "{name}: refused");
+        // The first turns only warm up.
+        if turn >= 10 {
+            library.push(mine.0);
+            plain.push(other.0);
+        }
+    }
+    assert!(ours == theirs, "{name}: the results differ");
+    let (library, plain) = (median(library), median(plain));
+    println!("{name:44} {library:10.1} {plain:10.1} {}", judged(library / plain, goal));
+    library
+}
+
+fn stored(text: &str) -> Vec<u16> {
+    let mut store = vec![0; SIX * 16_384];
+    let Answer::Counted(count) = Library.read(text.as_bytes(), &mut store) else { panic!("not read") };
+    store.truncate(SIX * count as usize);
+    store
+}
+
+fn main() {
+    println!(
+        "Medians of {REPEATS} repeats in microseconds; both sides in one process, by turns, on the same"
+    );
+    println!("input; buffers are not cleared between repeats, and a run goes on from the state left before.");
+    if cfg!(feature = "no-library") {
+        println!(
+            "Built without the library: the paper's implementation, made for clarity, stands in its place."
+        );
+    }
+    println!("{:44} {:>10} {:>10} {:>8} {:>6}", "", "library", "plain C", "ratio", "goal");
+
+    // A loop over indirect operands of all three forms.
+    let looping = stored(
+        "u,add,r4,r4,#1,\ns,xor,%r4+3,%r4+64,%r4+0,\nu,add,!r4+5,!r4+6,r4,\ns,mov,r16,^r4+7,,\n\
+         s,and,%r5+1,%r4+9,r16,\nu,lsr,r6,!r4+100,#3,\nu,beq,,!r5+0,#255,8\ns,not,%r4+77,%r4+76,,\nu,jmp,,,,0\n",
+    );
+    measure("run, loop with indirect operands, 65,535", 1.2, &|on, memory| {
+        on.run(&looping, 0, 65_535, &mut memory.state, &mut memory.numbers)
+    });
+    let (source, expansion) = simon::programs(&Library);
+    measure("run, example cipher, 17,385 steps", 1.2, &|on, memory| {
+        on.run(&source, 0, 65_535, &mut memory.state, &mut memory.numbers)
+    });
+    measure("run, its expansion, 65,425 steps", 1.2, &|on, memory| {
+        on.run(&expansion, 0, 65_535, &mut memory.state, &mut memory.numbers)
+    });
+
+    let marked = |count: usize| {
+        let few = [
+            "s,xor,r16,%r4+3,r17,\n",
+            "s,and,@200,#1,r18,\n",
+            "s,orr,%r5+0,%r5+1,%r5+2,\n",
+            "s,xor,r31,r16,r16,\n",
+        ];
+        stored(&few.concat().repeat(count / 4))
+    };
+    let jumps = |target: usize| stored(&format!("u,jmp,,,,{target}\n").repeat(1_024));
+    let expand = |name: &str, program: Vec<u16>| {
+        measure(name, 1.2, &|on, memory| on.expand(&program, &mut memory.numbers))
+    };
+    let long = expand("expand, 1,024 marked lines", marked(1_024));
+    let short = expand("expand, 256 marked lines", marked(256));
+    let jumps_0 = expand("expand, 1,024 jumps to line 0", jumps(0));
+    let jumps_end = expand("expand, 1,024 jumps to line 1,024", jumps(1_024));
+
+    // Lines of all forms, short and long ones.
+    let text = |count: usize| {
+        let few = [
+            "s,xor,r16,%r4+3,r17,\n",
+            "u,nop,,,,\n",
+            "u,beq,,!r15+127,#255,12345\n",
+            "u,mov,@99,^r31+255,,\n",
+            "u,jmp,,,,7\n",
+            "s,not,%r4+100,@200,,\n",
+            "u,mul,r9,r10,r11,\n",
+            "u,lsl,!r6+0,#128,@5,\n",
+        ];
+        few.concat().repeat(count / 8)
+    };
+    let read = |name: &str, count: usize| {
+        let text = text(count);
+        measure(name, 1.5, &|on, memory| on.read(text.as_bytes(), &mut memory.numbers))
+    };
+    let write = |name: &str, count: usize| {
+        let program = stored(&text(count));
+        measure(name, 1.5, &|on, memory| on.write(&program, &mut memory.bytes))
+    };
+    read("read, 16,384 lines", 16_384);
+    let read_long = read("read, 1,024 lines", 1_024);
+    let read_short = read("read, 256 lines", 256);
+    write("write, 16,384 lines", 16_384);
+    let write_long = write("write, 1,024 lines", 1_024);
+    let write_short = write("write, 256 lines", 256);
+
+    println!("\nThe library alone, ratios of its medians:");
+    let alone = |name: &str, ratio: f64, goal: f64| println!("{name:66} {}", judged(ratio, goal));
+    alone("expand, 1,024 jumps to line 1,024 against to line 0", jumps_end / jumps_0, 1.1);
+    alone("expand, 1,024 lines against 4 times 256 lines", long / (4.0 * short), 1.2);
+    alone("read, 1,024 lines against 4 times 256 lines", read_long / (4.0 * read_short), 1.2);
+    alone("write, 1,024 lines against 4 times 256 lines", write_long / (4.0 * write_short), 1.2);
+}

@@ -1,0 +1,565 @@
+//! The comparison: seeded random calls on an implementation and on the paper.
+//! Answer, lent memory, the guard values around it and the inputs must be the
+//! same afterwards. The rules about whole runs are tested on the answers too.
+
+use crate::answer::{Answer, Dualrail};
+use crate::generate as make;
+use crate::paper::{self, Kind, Line, Paper, SIX, STATE};
+use crate::random::Random;
+use std::panic::{catch_unwind, AssertUnwindSafe};
+
+/// A piece of memory with guard values before and behind.
+#[derive(Clone, PartialEq)]
+struct Lent<T> {
+    whole: Vec<T>,
+    from: usize,
+    to: usize,
+}
+
+impl<T: Copy + PartialEq + std::fmt::Debug> Lent<T> {
+    fn new(rng: &mut Random, contents: &[T], guard: fn(&mut Random) -> T) -> Lent<T> {
+        let from = 8 + rng.below(8);
+        let mut whole: Vec<T> = (0..from).map(|_| guard(rng)).collect();
+        whole.extend_from_slice(contents);
+        whole.extend((0..16).map(|_| guard(rng)));
+        Lent { whole, from, to: from + contents.len() }
+    }
+
+    fn part(&self) -> &[T] {
+        &self.whole[self.from..self.to]
+    }
+
+    fn part_mut(&mut self) -> &mut [T] {
+        &mut self.whole[self.from..self.to]
+    }
+
+    fn show(&self, name: &str) -> String {
+        let size = self.part().len();
+        let shown = size.min(3_000);
+        let rest = if shown < size { " and so on" } else { "" };
+        format!("{name} ({size} long): {:?}{rest}\n", &self.part()[..shown])
+    }
+
+    /// Where and how this differs from what is expected.
+    fn differs(&self, expected: &Lent<T>, name: &str) -> String {
+        match (0..self.whole.len()).find(|&at| self.whole[at] != expected.whole[at]) {
+            None => String::new(),
+            Some(at) => format!(
+                "{name}: {:?} instead of {:?} at index {}{}\n",
+                self.whole[at],
+                expected.whole[at],
+                at as isize - self.from as isize,
+                if at < self.from || at >= self.to { ", a guard value" } else { "" }
+            ),
+        }
+    }
+}
+
+#[derive(Clone, Copy, Debug, PartialEq)]
+pub enum Entry {
+    Read,
+    Write,
+    Check,
+    Expand,
+    ToImage,
+    FromImage,
+    Run,
+}
+
+/// One call with all its memory; parts that an entry point does not have are empty.
+#[derive(Clone, PartialEq)]
+struct Call {
+    entry: Entry,
+    bytes: Lent<u8>,
+    numbers: Lent<u16>,
+    start: u16,
+    budget: u16,
+    lent_bytes: Lent<u8>,
+    lent_numbers: Lent<u16>,
+}
+
+impl Call {
+    fn make(&mut self, on: &dyn Dualrail) -> Answer {
+        let (bytes, numbers) = (self.bytes.part(), self.numbers.part());
+        match self.entry {
+            Entry::Read => on.read(bytes, self.lent_numbers.part_mut()),
+            Entry::Write => on.write(numbers, self.lent_bytes.part_mut()),
+            Entry::Check => on.check(numbers),
+            Entry::Expand => on.expand(numbers, self.lent_numbers.part_mut()),
+            Entry::ToImage => on.to_image(bytes, self.lent_bytes.part_mut()),
+            Entry::FromImage => on.from_image(bytes, self.lent_bytes.part_mut()),
+            Entry::Run => on.run(
+                numbers,
+                self.start,
+                self.budget,
+                self.lent_bytes.part_mut(),
+                self.lent_numbers.part_mut(),
+            ),
+        }
+    }
+
+    fn show(&self) -> String {
+        let text = String::from_utf8_lossy(self.bytes.part()).into_owned();
+        let mut shown = format!("{:?}\n", self.entry);
+        match self.entry {
+            Entry::Read => shown += &(format!("text as string: {text:.20000?}\n") + &self.bytes.show("text")),
+            Entry::ToImage | Entry::FromImage => shown += &self.bytes.show("state"),
+            _ => {
+                shown += &self.numbers.show("program");
+                if let Ok(lines) = paper::stored_program(self.numbers.part()) {
+                    for (at, line) in lines.iter().take(500).enumerate() {
+                        shown += &format!("{at:6}  {}\n", line.spelling());
+                    }
+                }
+            }
+        }
+        if self.entry == Entry::Run {
+            shown += &format!("start {}, budget {}\n", self.start, self.budget);
+            shown += &self.lent_bytes.show("state");
+        } else {
+            shown += &format!("lent bytes: {}\n", self.lent_bytes.part().len());
+        }
+        shown + &format!("lent numbers: {}\n", self.lent_numbers.part().len())
+    }
+}
+
+/// What has been tried.
+#[derive(Clone, Default)]
+pub struct Counts {
+    pub calls: u64,
+    pub entries: [u64; 7],
+    pub refusals: [u64; 21],
+    pub halted: u64,
+    pub spent: u64,
+    pub steps: u64,
+    /// Accepted programs that went the whole way, and the sizes of what was compared there.
+    pub whole_runs: u64,
+    pub equal_rows: u64,
+    pub followed_steps: u64,
+}
+
+impl Counts {
+    pub fn show(&self) -> String {
+        let mut shown = format!("{} calls:", self.calls);
+        let entries = [
+            Entry::Read,
+            Entry::Write,
+            Entry::Check,
+            Entry::Expand,
+            Entry::ToImage,
+            Entry::FromImage,
+            Entry::Run,
+        ];
+        for entry in entries {
+            shown += &format!(" {entry:?} {}", self.entries[entry as usize]);
+        }
+        shown += "\nrefusals:";
+        for (number, count) in self.refusals.iter().enumerate().skip(1) {
+            shown += &format!(" {number}: {count}");
+        }
+        shown += &format!("\nruns: {} halted, {} spent, {} steps", self.halted, self.spent, self.steps);
+        shown
+            + &format!(
+                "\naccepted programs run whole: {}, rows of equal traces: {}, source steps followed: {}",
+                self.whole_runs, self.equal_rows, self.followed_steps
+            )
+    }
+}
+
+/// The state of a comparison; an error is the report of a difference.
+struct Comparison<'a> {
+    tested: &'a dyn Dualrail,
+    rng: Random,
+    counts: Counts,
+}
+
+/// Makes the cases `from` to `to` of a seed.
+pub fn compare(tested: &dyn Dualrail, seed: u64, from: u64, to: u64) -> Result<Counts, String> {
+    let say = std::env::var_os("DUALRAIL_SAY").is_some();
+    let mut comparison = Comparison { tested, rng: Random::new(0), counts: Counts::default() };
+    for case in from..to {
+        if say {
+            eprintln!("case {case}");
+        }
+        comparison.rng = Random::new(seed.wrapping_mul(0x1_0000_0001).wrapping_add(case));
+        comparison.case(case).map_err(|report| {
+            format!("DIFFERENCE in case {case} of seed {seed} (again with DUALRAIL_SEED={seed} DUALRAIL_CASE={case})\n{report}")
+        })?;
+    }
+    Ok(comparison.counts)
+}
+
+fn any_number(rng: &mut Random) -> u16 {
+    rng.next() as u16
+}
+
+fn any_byte(rng: &mut Random) -> u8 {
+    rng.byte()
+}
+
+/// A size for a lent store where `needed` is just enough.
+fn size(rng: &mut Random, needed: usize) -> usize {
+    match rng.below(10) {
+        0 => 0,
+        1 => rng.below(needed + 1),
+        2 => needed.saturating_sub(1),
+        3 => needed + 1,
+        4 => needed + rng.below(20),
+        _ => needed,
+    }
+}
+
+impl Comparison<'_> {
+    // ------------------------------------------------------------ calls
+
+    /// Makes one call on both and compares everything.
+    fn call(
+        &mut self,
+        entry: Entry,
+        (bytes, numbers): (&[u8], &[u16]),
+        (start, budget): (u16, u16),
+        (lent_bytes, lent_numbers): (&[u8], &[u16]),
+    ) -> Result<(Answer, Call), String> {
+        let rng = &mut self.rng;
+        let mut got = Call {
+            entry,
+            bytes: Lent::new(rng, bytes, any_byte),
+            numbers: Lent::new(rng, numbers, any_number),
+            start,
+            budget,
+            lent_bytes: Lent::new(rng, lent_bytes, any_byte),
+            lent_numbers: Lent::new(rng, lent_numbers, any_number),
+        };
+        let before = got.clone();
+        let mut wanted = got.clone();
+        let wanted_answer = wanted.make(&Paper);
+        let Ok(answer) = catch_unwind(AssertUnwindSafe(|| got.make(self.tested))) else {
+            return Err(format!("panic, expected {wanted_answer:?}\n{}", before.show()));
+        };
+        if answer != wanted_answer || got != wanted {
+            let mut report = format!("answer {answer:?}, expected {wanted_answer:?}\n");
+            report += &got.bytes.differs(&wanted.bytes, "input bytes changed");
+            report += &got.numbers.differs(&wanted.numbers, "input numbers changed");
+            report += &got.lent_bytes.differs(&wanted.lent_bytes, "lent bytes");
+            report += &got.lent_numbers.differs(&wanted.lent_numbers, "lent numbers");
+            return Err(report + &before.show());
+        }
+        let counts = &mut self.counts;
+        counts.calls += 1;
+        counts.entries[entry as usize] += 1;
+        match answer {
+            Answer::Counted(_) => (),
+            Answer::Refused { number, .. } => counts.refusals[number as usize] += 1,
+            Answer::Halted { steps, .. } => {
+                counts.halted += 1;
+                counts.steps += steps as u64;
+            }
+            Answer::Spent { steps, .. } => {
+                counts.spent += 1;
+                counts.steps += steps as u64;
+            }
+        }
+        Ok((answer, got))
+    }
+
+    fn some_bytes(&mut self, size: usize) -> Vec<u8> {
+        (0..size).map(|_| any_byte(&mut self.rng)).collect()
+    }
+
+    fn some_numbers(&mut self, size: usize) -> Vec<u16> {
+        (0..size).map(|_| any_number(&mut self.rng)).collect()
+    }
+
+    fn read(&mut self, text: &[u8], size: usize) -> Result<(Answer, Vec<u16>), String> {
+        let store = self.some_numbers(size);
+        let (answer, call) = self.call(Entry::Read, (text, &[]), (0, 0), (&[], &store))?;
+        Ok((answer, call.lent_numbers.part().to_vec()))
+    }
+
+    fn write(&mut self, program: &[u16], size: usize) -> Result<(Answer, Vec<u8>), String> {
+        let out = self.some_bytes(size);
+        let (answer, call) = self.call(Entry::Write, (&[], program), (0, 0), (&out, &[]))?;
+        Ok((answer, call.lent_bytes.part().to_vec()))
+    }
+
+    fn check(&mut self, program: &[u16]) -> Result<Answer, String> {
+        Ok(self.call(Entry::Check, (&[], program), (0, 0), (&[], &[]))?.0)
+    }
+
+    fn expand(&mut self, program: &[u16], size: usize) -> Result<(Answer, Vec<u16>), String> {
+        let out = self.some_numbers(size);
+        let (answer, call) = self.call(Entry::Expand, (&[], program), (0, 0), (&[], &out))?;
+        Ok((answer, call.lent_numbers.part().to_vec()))
+    }
+
+    fn image(&mut self, entry: Entry, state: &[u8], size: usize) -> Result<(Answer, Vec<u8>), String> {
+        let lent = self.some_bytes(size);
+        let (answer, call) = self.call(entry, (state, &[]), (0, 0), (&lent, &[]))?;
+        Ok((answer, call.lent_bytes.part().to_vec()))
+    }
+
+    fn run(
+        &mut self,
+        program: &[u16],
+        (start, budget): (usize, usize),
+        state: &[u8],
+        size: usize,
+    ) -> Result<(Answer, Vec<u8>, Vec<u16>), String> {
+        let trace = self.some_numbers(size);
+        let numbers = (start as u16, budget as u16);
+        let (answer, call) = self.call(Entry::Run, (&[], program), numbers, (state, &trace))?;
+        Ok((answer, call.lent_bytes.part().to_vec(), call.lent_numbers.part().to_vec()))
+    }
+
+    // ------------------------------------------------------------ cases
+
+    fn case(&mut self, case: u64) -> Result<(), String> {
+        if case % 25 == 0 {
+            return self.long(case / 25);
+        }
+        match self.rng.below(10) {
+            0..=3 => {
+                let lines = make::accepted_program(&mut self.rng);
+                self.whole_way(&lines)
+            }
+            4..=6 => self.texts(),
+            7 => self.states(),
+            _ => self.stored_programs(),
+        }
+    }
+
+    /// A text, right or damaged, into stores of several sizes, and back.
+    fn texts(&mut self) -> Result<(), String> {
+        let lines = make::program(&mut self.rng);
+        let mut text = make::text(&lines);
+        if self.rng.below(4) > 0 {
+            make::damage_text(&mut self.rng, &mut text);
+        }
+        if self.rng.one_in(50) {
+            let size = self.rng.below(100);
+            text = self.some_bytes(size);
+        }
+        let room = size(&mut self.rng, SIX * lines.len());
+        let (_, store) = self.read(&text, room)?;
+        // What a refused reading left there is a stored program too, mostly of no lines.
+        if self.rng.one_in(4) {
+            self.write(&store, 40 * lines.len())?;
+        }
+        Ok(())
+    }
+
+    /// Stored programs, right or damaged, to all that take one.
+    fn stored_programs(&mut self) -> Result<(), String> {
+        let lines = make::program(&mut self.rng);
+        let mut program = make::stored(&lines);
+        if self.rng.one_in(3) {
+            make::damage_numbers(&mut self.rng, &mut program);
+        }
+        if self.rng.one_in(3) {
+            let more = self.rng.below(6);
+            program.extend(self.some_numbers(more));
+        }
+        self.check(&program)?;
+        let size_of_text = make::text(&lines).len();
+        let room = size(&mut self.rng, size_of_text);
+        self.write(&program, room)?;
+        let length: usize = lines.iter().map(make::part_length).sum();
+        let room = size(&mut self.rng, SIX * length);
+        self.expand(&program, room)?;
+
+        let mut state = make::any_state(&mut self.rng);
+        if self.rng.one_in(8) {
+            let size = make::wrong_length(&mut self.rng);
+            state.resize(size, 7);
+        }
+        let budget = self.budget();
+        let start = self.start(lines.len());
+        let room = match self.rng.below(8) {
+            0 => self.rng.below(SIX * budget + 1),
+            1 => (SIX * budget).saturating_sub(1),
+            2 => SIX * budget + self.rng.below(20),
+            _ => SIX * budget,
+        };
+        self.run(&program, (start, budget), &state, room)?;
+        Ok(())
+    }
+
+    fn budget(&mut self) -> usize {
+        match self.rng.below(200) {
+            0 => self.rng.pick(&[65_535, 65_534, 40_000]),
+            1..=20 => self.rng.below(3),
+            21..=40 => self.rng.below(2_000),
+            _ => self.rng.below(100),
+        }
+    }
+
+    fn start(&mut self, count: usize) -> usize {
+        match self.rng.below(8) {
+            0 => self.rng.pick(&[count, count + 1, 16_384, 65_535]),
+            1 => self.rng.below(65_536),
+            2..=4 => 0,
+            _ => self.rng.below(count + 1),
+        }
+    }
+
+    /// States to images and back.
+    fn states(&mut self) -> Result<(), String> {
+        let mut bits = make::bit_state(&mut self.rng);
+        let mut image = make::image(&mut self.rng);
+        if self.rng.below(3) > 0 {
+            make::damage_state(&mut self.rng, &mut bits);
+            make::damage_state(&mut self.rng, &mut image);
+        }
+        let wrong = make::wrong_length(&mut self.rng);
+        let size = self.rng.pick(&[STATE, STATE, STATE, STATE, wrong]);
+        self.image(Entry::ToImage, &bits, size)?;
+        self.image(Entry::FromImage, &image, size)?;
+        // Each the other way too, where it mostly does not belong.
+        if self.rng.one_in(4) {
+            self.image(Entry::ToImage, &image, size)?;
+            self.image(Entry::FromImage, &bits, size)?;
+        }
+        Ok(())
+    }
+
+    /// The sizes where 7 and 9 begin, and the longest runs.
+    fn long(&mut self, which: u64) -> Result<(), String> {
+        let near = self.rng.pick(&[0, 1, 2, 2, 2]);
+        match which % 5 {
+            0 => {
+                let lines = make::long_program(&mut self.rng, 16_383 + near, false);
+                let mut text = make::text(&lines);
+                if self.rng.one_in(4) {
+                    make::damage_text(&mut self.rng, &mut text);
+                }
+                let room = SIX * self.rng.pick(&[16_383, 16_384, 16_384, 16_384, 16_385, 16_400]);
+                self.read(&text, room)?;
+            }
+            1 => {
+                let mut program = make::stored(&make::long_program(&mut self.rng, 16_383 + near, false));
+                if self.rng.one_in(4) {
+                    make::damage_numbers(&mut self.rng, &mut program);
+                }
+                let state = make::any_state(&mut self.rng);
+                match self.rng.below(4) {
+                    0 => drop(self.write(&program, 560_000)?),
+                    1 => drop(self.check(&program)?),
+                    2 => drop(self.expand(&program, SIX * 16_384)?),
+                    _ => drop(self.run(&program, (0, 300), &state, 1_800)?),
+                }
+            }
+            2 => {
+                let mut program = make::stored(&make::long_program(&mut self.rng, 1_023 + near, true));
+                if self.rng.one_in(4) {
+                    make::damage_numbers(&mut self.rng, &mut program);
+                }
+                self.check(&program)?;
+                let room = SIX * self.rng.pick(&[13_312, 13_312, 1_024, 6_000, 16_384]);
+                self.expand(&program, room)?;
+            }
+            3 => {
+                let count = self.rng.pick(&[1_024, 700, 300]);
+                let lines = make::long_program(&mut self.rng, count, true);
+                self.whole_way(&lines)?;
+            }
+            _ => {
+                // A run that mostly does not end.
+                let mut lines = make::accepted_program(&mut self.rng);
+                lines.push(make::jump(0));
+                let state = make::any_state(&mut self.rng);
+                let budget = self.rng.pick(&[65_535, 65_535, 30_000]);
+                self.run(&make::stored(&lines), (0, budget), &state, SIX * budget)?;
+            }
+        }
+        Ok(())
+    }
+
+    /// An accepted program the whole way: text, lines, expansion, images, runs.
+    fn whole_way(&mut self, lines: &[Line]) -> Result<(), String> {
+        let text = make::text(lines);
+        let show = String::from_utf8_lossy(&text).into_owned();
+        let must = |holds: bool, what: &str| {
+            if holds {
+                Ok(())
+            } else {
+                Err(format!("{what}\nprogram:\n{show:.20000}"))
+            }
+        };
+
+        // Text to lines to text.
+        let (answer, program) = self.read(&text, SIX * lines.len())?;
+        must(answer == Answer::Counted(lines.len() as u32), "a right text is not read")?;
+        let (answer, again) = self.write(&program, text.len())?;
+        must(answer == Answer::Counted(text.len() as u32) && again == text, "the text does not come back")?;
+        let (answer, _) = self.write(&program, text.len() - lines.len().min(1))?;
+        must(lines.is_empty() || answer == Answer::Refused { number: 17, line: 0 }, "17 is missing")?;
+
+        // The expansion, exact room and too little.
+        must(self.check(&program)? == Answer::Counted(lines.len() as u32), "not accepted")?;
+        let starts = paper::starts(lines);
+        let end = starts[lines.len()];
+        let (answer, expansion) = self.expand(&program, SIX * end)?;
+        must(answer == Answer::Counted(end as u32), "not expanded")?;
+        if end > 0 {
+            self.expand(&program, SIX * end - 1)?;
+        }
+
+        // Two bit states alike in public places, and their images.
+        let one = make::bit_state(&mut self.rng);
+        let two = make::same_public(&mut self.rng, &one);
+        let (_, image_one) = self.image(Entry::ToImage, &one, STATE)?;
+        let (_, image_two) = self.image(Entry::ToImage, &two, STATE)?;
+        let (_, back) = self.image(Entry::FromImage, &image_one, STATE)?;
+        must(back == one, "the bit state does not come back")?;
+
+        // Equal traces from one source line with one budget.
+        let line = self.start(lines.len());
+        let start = starts[line.min(lines.len())];
+        let budget = match self.rng.below(50) {
+            0 => 20_000,
+            1..=4 => 0,
+            _ => self.rng.below(600),
+        };
+        let (answer_one, _, trace_one) = self.run(&expansion, (start, budget), &image_one, SIX * budget)?;
+        let (answer_two, _, trace_two) = self.run(&expansion, (start, budget), &image_two, SIX * budget)?;
+        must(answer_one == answer_two, "the runs end differently")?;
+        let steps = steps(answer_one);
+        must(trace_one[..SIX * steps] == trace_two[..SIX * steps], "the traces differ")?;
+
+        // The expansion follows the source: as many steps as the parts of the lines done have.
+        let budget = self.rng.below(200);
+        let (answer, source, trace) = self.run(&program, (line, budget), &one, SIX * budget)?;
+        let done = self::steps(answer);
+        let part = |row: &[u16]| starts[row[0] as usize + 1] - starts[row[0] as usize];
+        let length: usize = trace[..SIX * done].chunks_exact(SIX).map(part).sum();
+        let stands = starts[counter(answer).min(lines.len())];
+        let (answer, mut state, _) = self.run(&expansion, (start, length), &image_one, SIX * length)?;
+        must(self::steps(answer) == length && counter(answer) == stands, "the expansion stands elsewhere")?;
+        let (_, decoded) = self.image(Entry::FromImage, &state, STATE)?;
+        must(decoded == source, "the expansion's state does not decode to the source's")?;
+        let (_, wanted) = self.image(Entry::ToImage, &source, STATE)?;
+        state[1..=3].fill(0);
+        must(state == wanted, "the expansion's state is not the image of the source's")?;
+
+        let sensitive = (0..STATE).filter(|&place| paper::kind_of_place(place) == Kind::Sensitive);
+        must(sensitive.into_iter().all(|place| source[place] <= 1), "the source's state is no bit state")?;
+        self.counts.whole_runs += 1;
+        self.counts.equal_rows += steps as u64;
+        self.counts.followed_steps += done as u64;
+        Ok(())
+    }
+}
+
+fn steps(answer: Answer) -> usize {
+    match answer {
+        Answer::Halted { steps, .. } | Answer::Spent { steps, .. } => steps as usize,
+        _ => 0,
+    }
+}
+
+fn counter(answer: Answer) -> usize {
+    match answer {
+        Answer::Halted { counter, .. } | Answer::Spent { counter, .. } => counter as usize,
+        _ => usize::MAX,
+    }
+}

@@ -1,0 +1,127 @@
+//! The static library: its exported functions, and safe functions over them.
+
+use crate::answer::{Answer, Dualrail};
+
+extern "C" {
+    fn dualrail_read(text: *const u8, text_length: usize, store: *mut u16, store_length: usize) -> u64;
+    fn dualrail_write(program: *const u16, program_length: usize, out: *mut u8, out_length: usize) -> u64;
+    fn dualrail_check(program: *const u16, program_length: usize) -> u64;
+    fn dualrail_expand(program: *const u16, program_length: usize, out: *mut u16, out_length: usize) -> u64;
+    fn dualrail_to_image(bits: *const u8, bits_length: usize, image: *mut u8, image_length: usize) -> u64;
+    fn dualrail_from_image(image: *const u8, image_length: usize, bits: *mut u8, bits_length: usize) -> u64;
+    fn dualrail_run(
+        program: *const u16,
+        program_length: usize,
+        start: u16,
+        budget: u16,
+        state: *mut u8,
+        state_length: usize,
+        trace: *mut u16,
+        trace_length: usize,
+    ) -> u64;
+}
+
+// Safe, all of them: a pointer and its length come from one slice, and two
+// slices of one call never overlap, as one of them at least is lent for writing.
+
+pub fn read(text: &[u8], store: &mut [u16]) -> Answer {
+    Answer::from_count(unsafe { dualrail_read(text.as_ptr(), text.len(), store.as_mut_ptr(), store.len()) })
+}
+
+pub fn write(program: &[u16], out: &mut [u8]) -> Answer {
+    Answer::from_count(unsafe {
+        dualrail_write(program.as_ptr(), program.len(), out.as_mut_ptr(), out.len())
+    })
+}
+
+pub fn check(program: &[u16]) -> Answer {
+    Answer::from_count(unsafe { dualrail_check(program.as_ptr(), program.len()) })
+}
+
+pub fn expand(program: &[u16], out: &mut [u16]) -> Answer {
+    Answer::from_count(unsafe {
+        dualrail_expand(program.as_ptr(), program.len(), out.as_mut_ptr(), out.len())
+    })
+}
+
+pub fn to_image(bits: &[u8], image: &mut [u8]) -> Answer {
+    Answer::from_count(unsafe {
+        dualrail_to_image(bits.as_ptr(), bits.len(), image.as_mut_ptr(), image.len())
+    })
+}
+
+pub fn from_image(image: &[u8], bits: &mut [u8]) -> Answer {
+    Answer::from_count(unsafe {
+        dualrail_from_image(image.as_ptr(), image.len(), bits.as_mut_ptr(), bits.len())
+    })
+}
+
+pub fn run(program: &[u16], start: u16, budget: u16, state: &mut [u8], trace: &mut [u16]) -> Answer {
+    Answer::from_run(unsafe {
+        dualrail_run(
+            program.as_ptr(),
+            program.len(),
+            start,
+            budget,
+            state.as_mut_ptr(),
+            state.len(),
+            trace.as_mut_ptr(),
+            trace.len(),
+        )
+    })
+}
+
+/// The static library as one of the implementations.
+pub struct Library;
+
+impl Dualrail for Library {
+    fn read(&self, text: &[u8], store: &mut [u16]) -> Answer {
+        read(text, store)
+    }
+    fn write(&self, program: &[u16], out: &mut [u8]) -> Answer {
+        write(program, out)
+    }
+    fn check(&self, program: &[u16]) -> Answer {
+        check(program)
+    }
+    fn expand(&self, program: &[u16], out: &mut [u16]) -> Answer {
+        expand(program, out)
+    }
+    fn to_image(&self, bits: &[u8], image: &mut [u8]) -> Answer {
+        to_image(bits, image)
+    }
+    fn from_image(&self, image: &[u8], bits: &mut [u8]) -> Answer {
+        from_image(image, bits)
+    }
+    fn run(&self, program: &[u16], start: u16, budget: u16, state: &mut [u8], trace: &mut [u16]) -> Answer {
+        run(program, start, budget, state, trace)
+    }
+}
+
+#[cfg(test)]
+mod tests {
+    use super::*;
+    use std::ptr::{null, null_mut};
+
+    /// An empty slice may have any pointer, none too.
+    #[test]
+    fn empty_slices() {
+        let refused = |number: u64| number << 32;
+        let odd = 1 as *mut u16;
+        let mut image = [0u8; 544];
+        unsafe {
+            assert_eq!(dualrail_read(null(), 0, null_mut(), 0), 0);
+            assert_eq!(dualrail_read(b"\n".as_ptr(), 1, odd, 0), refused(8));
+            assert_eq!(dualrail_write(null(), 0, null_mut(), 0), 0);
+            assert_eq!(dualrail_check(odd, 0), 0);
+            assert_eq!(dualrail_expand(null(), 0, odd, 0), 0);
+            assert_eq!(dualrail_to_image(null(), 0, null_mut(), 0), refused(18));
+            assert_eq!(dualrail_to_image(null(), 0, image.as_mut_ptr(), 544), refused(18));
+            assert_eq!(dualrail_from_image(null(), 0, null_mut(), 0), refused(18));
+            assert_eq!(dualrail_run(null(), 0, 5, 0, image.as_mut_ptr(), 544, odd, 0), 5 << 16);
+            assert_eq!(dualrail_run(odd, 0, 0, 1, image.as_mut_ptr(), 544, null_mut(), 0), 20 << 48);
+            assert_eq!(dualrail_run(null(), 0, 0, 0, null_mut(), 0, null_mut(), 0), 18 << 48);
+        }
+        assert_eq!(image, [0; 544]);
+    }
+}

@@ -1,0 +1,435 @@
+//! Random inputs: programs that are right or nearly so, texts, states.
+
+use crate::paper::{
+    code, kind_of_place, table_page, Kind, Line, Opcode, Operand, Operand::*, OPCODES, STATE,
+};
+use crate::random::Random;
+
+// ---------------------------------------------------------------- lines
+
+/// Numbers near the ends of a range as well as inside it.
+fn edgy(rng: &mut Random, low: usize, high: usize) -> usize {
+    match rng.below(4) {
+        0 => low,
+        1 => high,
+        _ => rng.within(low, high),
+    }
+}
+
+fn few(rng: &mut Random, low: usize, high: usize) -> u8 {
+    // Few different places, so that lines meet each other's results.
+    let high = if rng.one_in(3) { high } else { high.min(low + 3) };
+    rng.within(low, high) as u8
+}
+
+fn public_place(rng: &mut Random) -> Operand {
+    match rng.below(4) {
+        0 | 1 => Register(few(rng, 4, 15)),
+        2 => Cell(edgy(rng, 0, 127) as u16),
+        _ => Public { base: few(rng, 4, 15), offset: edgy(rng, 0, 127) as u8 },
+    }
+}
+
+fn sensitive_place(rng: &mut Random) -> Operand {
+    match rng.below(4) {
+        0 | 1 => Register(few(rng, 16, 31)),
+        2 => Cell(edgy(rng, 128, 255) as u16),
+        _ => Sensitive { base: few(rng, 4, 15), offset: edgy(rng, 0, 127) as u8 },
+    }
+}
+
+/// Any place, with the forms that a mark check refuses.
+fn any_place(rng: &mut Random) -> Operand {
+    let base = rng.below(32) as u8;
+    match rng.below(8) {
+        0 => Register(base % 4),
+        1 => Register(base),
+        2 => Cell(edgy(rng, 0, 511) as u16),
+        3 => Public { base, offset: edgy(rng, 0, 127) as u8 },
+        4 => Sensitive { base, offset: edgy(rng, 0, 127) as u8 },
+        5 => Table { base, offset: edgy(rng, 0, 255) as u8 },
+        6 => public_place(rng),
+        _ => sensitive_place(rng),
+    }
+}
+
+fn literal(rng: &mut Random) -> Operand {
+    let any = rng.below(256);
+    Literal(rng.pick(&[0, 1, 2, 3, 7, 8, 9, 128, 255, any]) as u8)
+}
+
+fn any_argument(rng: &mut Random) -> Operand {
+    if rng.one_in(4) {
+        literal(rng)
+    } else {
+        any_place(rng)
+    }
+}
+
+fn line(
+    rng: &mut Random,
+    marked: bool,
+    opcode: Opcode,
+    place: fn(&mut Random) -> Operand,
+    argument: fn(&mut Random) -> Operand,
+    most: usize,
+) -> Line {
+    let fills = opcode.fills();
+    Line {
+        marked,
+        opcode,
+        destination: fills[0].then(|| place(rng)),
+        first: fills[1].then(|| argument(rng)),
+        second: fills[2].then(|| argument(rng)),
+        target: fills[3].then(|| edgy(rng, 0, most) as u16),
+    }
+}
+
+/// A line that the mark check takes in a program of `count` lines.
+pub fn accepted_line(rng: &mut Random, count: usize) -> Line {
+    if rng.one_in(2) {
+        let opcode = OPCODES[rng.within(2, 6)].0;
+        let argument = |rng: &mut Random| match rng.below(6) {
+            0 => Literal(rng.bit()),
+            _ => sensitive_place(rng),
+        };
+        line(rng, true, opcode, sensitive_place, argument, count)
+    } else {
+        let opcode = OPCODES[rng.below(13)].0;
+        let argument = |rng: &mut Random| match rng.below(3) {
+            0 => literal(rng),
+            _ => public_place(rng),
+        };
+        line(rng, false, opcode, public_place, argument, count)
+    }
+}
+
+/// Any correct line.
+pub fn any_line(rng: &mut Random) -> Line {
+    let marked = rng.one_in(2);
+    let opcode = OPCODES[rng.below(13)].0;
+    line(rng, marked, opcode, any_place, any_argument, 16_384)
+}
+
+/// An unmarked jump.
+pub fn jump(target: u16) -> Line {
+    Line {
+        marked: false,
+        opcode: Opcode::Jmp,
+        destination: None,
+        first: None,
+        second: None,
+        target: Some(target),
+    }
+}
+
+/// The length of a line's part of the expansion, were it accepted.
+pub fn part_length(line: &Line) -> usize {
+    match line.opcode {
+        _ if !line.marked => 1,
+        Opcode::Not => 5,
+        Opcode::Mov => 4,
+        _ => 13,
+    }
+}
+
+/// A correct line made so that one of the conditions 10 to 16 holds.
+fn nearly_accepted_line(rng: &mut Random, count: usize) -> Line {
+    let mut line = accepted_line(rng, count);
+    let low = rng.below(4) as u8;
+    let high = rng.within(16, 31) as u8;
+    let offset = edgy(rng, 0, 127) as u8;
+    match rng.below(8) {
+        0 => {
+            let names = [
+                Register(low),
+                Cell(edgy(rng, 256, 511) as u16),
+                Table { base: few(rng, 4, 15), offset },
+                Public { base: low, offset },
+                Sensitive { base: low, offset },
+            ];
+            let operand = rng.pick(&names);
+            put_operand(rng, &mut line, operand);
+        }
+        1 => line.marked = !line.marked,
+        2 => {
+            let names =
+                [Public { base: high, offset }, Sensitive { base: high, offset }, sensitive_place(rng)];
+            let operand = rng.pick(&names);
+            put_operand(rng, &mut line, operand);
+        }
+        3 => {
+            line = accepted_line(rng, count);
+            line.marked = true;
+            line.destination = line.destination.map(|_| sensitive_place(rng));
+            line.first = line.first.map(|_| public_place(rng));
+        }
+        4 => {
+            let opcode = OPCODES[rng.pick(&[0, 1, 7, 8, 9, 10, 11, 12])].0;
+            line = self::line(rng, true, opcode, sensitive_place, sensitive_place, count);
+        }
+        5 => {
+            let opcode = OPCODES[rng.within(2, 6)].0;
+            line = self::line(rng, true, opcode, sensitive_place, sensitive_place, count);
+            line.first = Some(Literal(edgy(rng, 2, 255) as u8));
+        }
+        6 => {
+            let opcode = OPCODES[rng.pick(&[1, 11, 12])].0;
+            line = self::line(rng, false, opcode, public_place, public_place, count);
+            line.target = Some(edgy(rng, count + 1, 16_384.max(count + 1)) as u16);
+        }
+        _ => line = any_line(rng),
+    }
+    line
+}
+
+/// Replaces an operand, where the line has it.
+fn put_operand(rng: &mut Random, line: &mut Line, operand: Operand) {
+    let field = match rng.below(3) {
+        0 => &mut line.destination,
+        1 => &mut line.first,
+        _ => &mut line.second,
+    };
+    *field = field.map(|_| operand);
+}
+
+// ---------------------------------------------------------------- programs
+
+/// Mostly short, now and then long.
+fn length(rng: &mut Random) -> usize {
+    match rng.below(100) {
+        0..=3 => 0,
+        4..=69 => rng.within(1, 8),
+        70..=97 => rng.within(9, 40),
+        _ => rng.within(41, 300),
+    }
+}
+
+/// A program that the mark check takes.
+pub fn accepted_program(rng: &mut Random) -> Vec<Line> {
+    let count = length(rng);
+    let mut lines: Vec<Line> = (0..count).map(|_| accepted_line(rng, count)).collect();
+    if count > 0 && rng.one_in(3) {
+        // A loop, so that runs are longer.
+        lines[count - 1] = jump(rng.below(count) as u16);
+    }
+    lines
+}
+
+/// A program of correct lines, mostly with something for the mark check to find.
+pub fn program(rng: &mut Random) -> Vec<Line> {
+    match rng.below(4) {
+        0 => accepted_program(rng),
+        1 => (0..length(rng)).map(|_| any_line(rng)).collect(),
+        _ => {
+            let mut lines = accepted_program(rng);
+            let count = lines.len();
+            for _ in 0..rng.within(1, 2) {
+                if count > 0 {
+                    lines[rng.below(count)] = nearly_accepted_line(rng, count);
+                }
+            }
+            lines
+        }
+    }
+}
+
+/// A program of this many correct lines, made quickly: a few lines over and over.
+pub fn long_program(rng: &mut Random, count: usize, accepted: bool) -> Vec<Line> {
+    let few: Vec<Line> =
+        (0..16).map(|_| if accepted { accepted_line(rng, count) } else { any_line(rng) }).collect();
+    (0..count).map(|_| rng.pick(&few)).collect()
+}
+
+pub fn stored(lines: &[Line]) -> Vec<u16> {
+    lines.iter().flat_map(Line::stored).collect()
+}
+
+pub fn text(lines: &[Line]) -> Vec<u8> {
+    lines.iter().flat_map(|line| (line.spelling() + "\n").into_bytes()).collect()
+}
+
+/// Changes some numbers of a stored program.
+pub fn damage_numbers(rng: &mut Random, program: &mut [u16]) {
+    // The last number of each form, those beside it, and the ends of everything.
+    let edges = [
+        0, 1, 2, 3, 12, 13, 256, 257, 288, 289, 800, 801, 4_896, 4_897, 8_992, 8_993, 16_384, 16_385, 16_386,
+        17_184, 17_185, 32_767, 65_535,
+    ];
+    if program.is_empty() {
+        return;
+    }
+    for _ in 0..rng.within(1, 3) {
+        let at = rng.below(program.len());
+        program[at] = match rng.below(4) {
+            0 => rng.next() as u16,
+            1 => program[at].wrapping_add(rng.pick(&[1, 65_535, 128, 256])),
+            _ => rng.pick(&edges),
+        };
+    }
+}
+
+/// Changes a text at some points.
+pub fn damage_text(rng: &mut Random, text: &mut Vec<u8>) {
+    const BYTES: &[u8] = b"su,,,,\n\n#r@!%^+0012345678969abdjlmnopqtvx \r\t-\"\0\xe4\xff";
+    const FIELDS: &[&str] = &[
+        "#256",
+        "#00",
+        "#1",
+        "#",
+        "r32",
+        "r04",
+        "r",
+        "r31",
+        "@512",
+        "@511",
+        "@0512",
+        "!r4",
+        "!r4+128",
+        "%r4+128",
+        "^r4+256",
+        "^r31+255",
+        "!r32+0",
+        "%r4+00",
+        "!4+1",
+        "!r4+",
+        "%r+1",
+        "16385",
+        "16384",
+        "016",
+        "65536",
+        "4294967296",
+        "99999999999999999999",
+        "nop",
+        "jmp",
+        "not",
+        "mov",
+        "and",
+        "xor",
+        "add",
+        "beq",
+        "or",
+        "s",
+        "u",
+        "U",
+        "",
+        "su",
+    ];
+    for _ in 0..rng.pick(&[1, 1, 1, 2, 3]) {
+        let size = text.len();
+        let at = rng.below(size + 1);
+        match rng.below(12) {
+            0 if at < size => {
+                text.remove(at);
+            }
+            1 | 2 => text.insert(at, rng.pick(BYTES)),
+            3 if at < size => text[at] = rng.pick(BYTES),
+            4 if at < size => text[at] = rng.byte(),
+            5 => text.truncate(at),
+            6 => {
+                // A line with about as many bytes as condition 1 allows.
+                let newline = |byte: &u8| *byte == b'\n';
+                let from = text[..at].iter().rposition(newline).map_or(0, |before| before + 1);
+                let to = text[at..].iter().position(newline).map_or(size, |behind| at + behind);
+                let more = rng.within(38, 43).saturating_sub(to - from);
+                let byte = rng.pick(b"0,1r");
+                text.splice(at..at, std::iter::repeat_n(byte, more));
+            }
+            7..=10 if at < size => {
+                // Another field in place of one.
+                let stop = |byte: &u8| *byte == b',' || *byte == b'\n';
+                let from = text[..at].iter().rposition(stop).map_or(0, |comma| comma + 1);
+                let to = text[at..].iter().position(stop).map_or(size, |comma| at + comma);
+                if from <= to {
+                    text.splice(from..to, rng.pick(FIELDS).bytes());
+                }
+            }
+            _ => {
+                // A piece of the text once more, somewhere.
+                let from = rng.below(size + 1);
+                let to = (from + rng.below(20)).min(size);
+                let piece = text[from..to].to_vec();
+                text.splice(at..at, piece);
+            }
+        }
+    }
+}
+
+// ---------------------------------------------------------------- states
+
+/// A bit state.
+pub fn bit_state(rng: &mut Random) -> Vec<u8> {
+    let small = rng.one_in(2);
+    let mut state = vec![0; STATE];
+    for (place, value) in state.iter_mut().enumerate() {
+        *value = match kind_of_place(place) {
+            Kind::Public if small => rng.below(4) as u8,
+            Kind::Public => rng.byte(),
+            Kind::Sensitive => rng.bit(),
+            Kind::Other => 0,
+        };
+    }
+    state
+}
+
+/// A bit state with the same public places, its sensitive bits new.
+pub fn same_public(rng: &mut Random, state: &[u8]) -> Vec<u8> {
+    let mut other = state.to_vec();
+    for (place, value) in other.iter_mut().enumerate() {
+        if kind_of_place(place) == Kind::Sensitive {
+            *value = rng.bit();
+        }
+    }
+    other
+}
+
+/// The image of a bit state, r1 to r3 being free.
+pub fn image(rng: &mut Random) -> Vec<u8> {
+    let mut state = bit_state(rng);
+    for (place, value) in state.iter_mut().enumerate() {
+        if kind_of_place(place) == Kind::Sensitive {
+            *value = code(*value);
+        } else if (1..=3).contains(&place) {
+            *value = rng.byte();
+        }
+    }
+    state[32 + 256..].copy_from_slice(&table_page());
+    state
+}
+
+/// Any state at all.
+pub fn any_state(rng: &mut Random) -> Vec<u8> {
+    match rng.below(3) {
+        0 => bit_state(rng),
+        1 => image(rng),
+        _ => (0..STATE).map(|_| rng.byte()).collect(),
+    }
+}
+
+/// Changes one place or two, or the length.
+pub fn damage_state(rng: &mut Random, state: &mut Vec<u8>) {
+    if rng.one_in(3) {
+        let size = wrong_length(rng);
+        state.resize(size, 0);
+        return;
+    }
+    for _ in 0..rng.within(1, 2) {
+        let whole = rng.below(STATE);
+        let edges = [0, 1, 2, 3, 4, 15, 16, 31, 32, 159, 160, 287, 288, 293, 335, 336, 543, whole];
+        let place = rng.pick(&edges);
+        state[place] = match rng.below(3) {
+            0 => rng.byte(),
+            _ => rng.below(4) as u8,
+        };
+    }
+}
+
+pub fn wrong_length(rng: &mut Random) -> usize {
+    let any = rng.below(1_200);
+    let size = rng.pick(&[0, 1, 32, 512, 543, 545, 1_088, any]);
+    if size == STATE {
+        STATE + 1
+    } else {
+        size
+    }
+}

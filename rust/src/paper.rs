@@ -1,0 +1,688 @@
+//! Document 01 once more, written from the paper alone (and from
+//! docs/STORED-LINES.md, which it asks for), for clarity and not for speed.
+//! The test compares the library with this.
+
+use crate::answer::{Answer, Dualrail};
+
+/// Bytes of a state: the registers, then the cells.
+pub const STATE: usize = 32 + 512;
+/// Numbers of a stored line, and of a trace row.
+pub const SIX: usize = 6;
+/// Most lines of any program, and of one for the mark check.
+pub const MOST_LINES: usize = 16_384;
+pub const MOST_CHECKED: usize = 1_024;
+
+// ---------------------------------------------------------------- lines
+
+#[derive(Clone, Copy, Debug, PartialEq, Eq)]
+pub enum Operand {
+    /// `#n`
+    Literal(u8),
+    /// `rN`
+    Register(u8),
+    /// `@n`
+    Cell(u16),
+    /// `!rN+k`, cell (rN + k) mod 128
+    Public { base: u8, offset: u8 },
+    /// `%rN+k`, cell 128 + (rN + k) mod 128
+    Sensitive { base: u8, offset: u8 },
+    /// `^rN+k`, cell 256 + (rN + k) mod 256
+    Table { base: u8, offset: u8 },
+}
+use Operand::*;
+
+#[derive(Clone, Copy, Debug, PartialEq, Eq)]
+pub enum Opcode {
+    Nop,
+    Jmp,
+    Not,
+    Mov,
+    And,
+    Orr,
+    Xor,
+    Lsl,
+    Lsr,
+    Add,
+    Mul,
+    Beq,
+    Bne,
+}
+use Opcode::*;
+
+/// The opcodes in the order of their stored numbers.
+pub const OPCODES: [(Opcode, &str); 13] = [
+    (Nop, "nop"),
+    (Jmp, "jmp"),
+    (Not, "not"),
+    (Mov, "mov"),
+    (And, "and"),
+    (Orr, "orr"),
+    (Xor, "xor"),
+    (Lsl, "lsl"),
+    (Lsr, "lsr"),
+    (Add, "add"),
+    (Mul, "mul"),
+    (Beq, "beq"),
+    (Bne, "bne"),
+];
+
+#[derive(Clone, Copy, Debug, PartialEq, Eq)]
+pub struct Line {
+    pub marked: bool,
+    pub opcode: Opcode,
+    pub destination: Option<Operand>,
+    pub first: Option<Operand>,
+    pub second: Option<Operand>,
+    pub target: Option<u16>,
+}
+
+impl Opcode {
+    /// Which of destination, first argument, second argument, target are filled.
+    pub fn fills(self) -> [bool; 4] {
+        match self {
+            Nop => [false, false, false, false],
+            Jmp => [false, false, false, true],
+            Not | Mov => [true, true, false, false],
+            And | Orr | Xor | Lsl | Lsr | Add | Mul => [true, true, true, false],
+            Beq | Bne => [false, true, true, true],
+        }
+    }
+}
+
+impl Operand {
+    /// The operand as it is written.
+    pub fn spelling(self) -> String {
+        match self {
+            Literal(n) => format!("#{n}"),
+            Register(n) => format!("r{n}"),
+            Cell(n) => format!("@{n}"),
+            Public { base, offset } => format!("!r{base}+{offset}"),
+            Sensitive { base, offset } => format!("%r{base}+{offset}"),
+            Table { base, offset } => format!("^r{base}+{offset}"),
+        }
+    }
+
+    fn from_spelling(field: &str) -> Option<Operand> {
+        let body = field.get(1..)?;
+        let indirect = |most: u32| -> Option<(u8, u8)> {
+            let (base, offset) = body.strip_prefix('r')?.split_once('+')?;
+            Some((number(base, 31)? as u8, number(offset, most)? as u8))
+        };
+        Some(match field.as_bytes()[0] {
+            b'#' => Literal(number(body, 255)? as u8),
+            b'r' => Register(number(body, 31)? as u8),
+            b'@' => Cell(number(body, 511)? as u16),
+            b'!' => indirect(127).map(|(base, offset)| Public { base, offset })?,
+            b'%' => indirect(127).map(|(base, offset)| Sensitive { base, offset })?,
+            b'^' => indirect(255).map(|(base, offset)| Table { base, offset })?,
+            _ => return None,
+        })
+    }
+
+    /// The operand as it is stored, never 0.
+    fn stored(self) -> u16 {
+        match self {
+            Literal(n) => 1 + n as u16,
+            Register(n) => 257 + n as u16,
+            Cell(n) => 289 + n,
+            Public { base, offset } => 801 + 128 * base as u16 + offset as u16,
+            Sensitive { base, offset } => 4_897 + 128 * base as u16 + offset as u16,
+            Table { base, offset } => 8_993 + 256 * base as u16 + offset as u16,
+        }
+    }
+
+    fn from_stored(number: u16) -> Option<Operand> {
+        let split = |value: u16, size: u16| ((value / size) as u8, (value % size) as u8);
+        Some(match number {
+            1..=256 => Literal((number - 1) as u8),
+            257..=288 => Register((number - 257) as u8),
+            289..=800 => Cell(number - 289),
+            801..=4_896 => {
+                let (base, offset) = split(number - 801, 128);
+                Public { base, offset }
+            }
+            4_897..=8_992 => {
+                let (base, offset) = split(number - 4_897, 128);
+                Sensitive { base, offset }
+            }
+            8_993..=17_184 => {
+                let (base, offset) = split(number - 8_993, 256);
+                Table { base, offset }
+            }
+            _ => return None,
+        })
+    }
+
+    fn is_literal(self) -> bool {
+        matches!(self, Literal(_))
+    }
+}
+
+/// A decimal number without leading zeros, at most `most`.
+fn number(digits: &str, most: u32) -> Option<u32> {
+    let right = !digits.is_empty()
+        && digits.len() <= 5
+        && digits.bytes().all(|byte| byte.is_ascii_digit())
+        && (digits.len() == 1 || !digits.starts_with('0'));
+    if !right {
+        return None;
+    }
+    digits.parse().ok().filter(|&value| value <= most)
+}
+
+/// An operand field whose filling is right already: an empty one is no operand,
+/// and a filled one must be an operand, not a literal if it is a destination.
+fn operand_field(filled: bool, value: Option<Operand>, destination: bool) -> Result<Option<Operand>, u16> {
+    match value {
+        _ if !filled => Ok(None),
+        Some(operand) if !(destination && operand.is_literal()) => Ok(Some(operand)),
+        _ => Err(6),
+    }
+}
+
+impl Line {
+    /// The line as it is written, without its newline.
+    pub fn spelling(&self) -> String {
+        let name = OPCODES[self.opcode as usize].1;
+        let field = |operand: Option<Operand>| operand.map_or(String::new(), Operand::spelling);
+        format!(
+            "{},{},{},{},{},{}",
+            if self.marked { "s" } else { "u" },
+            name,
+            field(self.destination),
+            field(self.first),
+            field(self.second),
+            self.target.map_or(String::new(), |line| line.to_string()),
+        )
+    }
+
+    /// Reads the bytes before a newline; else the number of the refusal.
+    fn from_spelling(bytes: &[u8]) -> Result<Line, u16> {
+        // Bytes above 127 become characters that no field has.
+        let text: String = bytes.iter().map(|&byte| byte as char).collect();
+        let fields: Vec<&str> = text.split(',').collect();
+        let &[mark, opcode, destination, first, second, target] = &fields[..] else {
+            return Err(2);
+        };
+        let marked = match mark {
+            "s" => true,
+            "u" => false,
+            _ => return Err(3),
+        };
+        let Some(&(opcode, _)) = OPCODES.iter().find(|(_, name)| *name == opcode) else {
+            return Err(4);
+        };
+        let filled = [destination, first, second, target].map(|field| !field.is_empty());
+        if filled != opcode.fills() {
+            return Err(5);
+        }
+        Ok(Line {
+            marked,
+            opcode,
+            destination: operand_field(filled[0], operand_of(destination), true)?,
+            first: operand_field(filled[1], operand_of(first), false)?,
+            second: operand_field(filled[2], operand_of(second), false)?,
+            target: if filled[3] { Some(number(target, 16_384).ok_or(6u16)? as u16) } else { None },
+        })
+    }
+
+    /// The line as six numbers.
+    pub fn stored(&self) -> [u16; SIX] {
+        let field = |operand: Option<Operand>| operand.map_or(0, Operand::stored);
+        [
+            self.marked as u16,
+            self.opcode as u16,
+            field(self.destination),
+            field(self.first),
+            field(self.second),
+            self.target.map_or(0, |line| 1 + line),
+        ]
+    }
+
+    /// Takes six numbers as a line; else the number of the refusal.
+    pub fn from_stored(numbers: &[u16]) -> Result<Line, u16> {
+        let &[mark, opcode, destination, first, second, target] = numbers else {
+            unreachable!("a line is six numbers");
+        };
+        if mark > 1 {
+            return Err(3);
+        }
+        let Some(&(opcode, _)) = OPCODES.get(opcode as usize) else {
+            return Err(4);
+        };
+        let filled = [destination, first, second, target].map(|number| number != 0);
+        if filled != opcode.fills() {
+            return Err(5);
+        }
+        if target > 16_385 {
+            return Err(6);
+        }
+        Ok(Line {
+            marked: mark == 1,
+            opcode,
+            destination: operand_field(filled[0], Operand::from_stored(destination), true)?,
+            first: operand_field(filled[1], Operand::from_stored(first), false)?,
+            second: operand_field(filled[2], Operand::from_stored(second), false)?,
+            target: target.checked_sub(1),
+        })
+    }
+}
+
+/// A field of text as operand; characters outside ASCII would make it none.
+fn operand_of(field: &str) -> Option<Operand> {
+    if field.is_ascii() {
+        Operand::from_spelling(field)
+    } else {
+        None
+    }
+}
+
+fn refused(number: u16, line: usize) -> Answer {
+    Answer::Refused { number, line: line as u32 }
+}
+
+/// The check that comes first wherever a stored program is taken.
+pub fn stored_program(numbers: &[u16]) -> Result<Vec<Line>, Answer> {
+    let count = numbers.len() / SIX;
+    if count > MOST_LINES {
+        return Err(refused(7, MOST_LINES));
+    }
+    numbers
+        .chunks_exact(SIX)
+        .enumerate()
+        .map(|(at, six)| Line::from_stored(six).map_err(|number| refused(number, at)))
+        .collect()
+}
+
+fn read(text: &[u8], store: &mut [u16]) -> Answer {
+    let room = store.len() / SIX;
+    let mut rest = text;
+    let mut count = 0;
+    while !rest.is_empty() {
+        if count == MOST_LINES {
+            return refused(7, count);
+        }
+        if count == room {
+            return refused(8, count);
+        }
+        let Some(end) = rest.iter().take(41).position(|&byte| byte == b'\n') else {
+            return refused(1, count);
+        };
+        match Line::from_spelling(&rest[..end]) {
+            Ok(line) => store[SIX * count..SIX * count + SIX].copy_from_slice(&line.stored()),
+            Err(number) => return refused(number, count),
+        }
+        count += 1;
+        rest = &rest[end + 1..];
+    }
+    Answer::Counted(count as u32)
+}
+
+fn write(lines: &[Line], out: &mut [u8]) -> Answer {
+    let text: String = lines.iter().map(|line| line.spelling() + "\n").collect();
+    if out.len() < text.len() {
+        return refused(17, 0);
+    }
+    out[..text.len()].copy_from_slice(text.as_bytes());
+    Answer::Counted(text.len() as u32)
+}
+
+// ---------------------------------------------------------------- mark check
+
+#[derive(Clone, Copy, PartialEq, Eq)]
+pub enum Kind {
+    Public,
+    Sensitive,
+    /// r0 to r3 and the table page
+    Other,
+}
+
+/// The kind of a place of the state.
+pub fn kind_of_place(place: usize) -> Kind {
+    match place {
+        4..=15 => Kind::Public,
+        16..=31 => Kind::Sensitive,
+        32..=159 => Kind::Public,
+        160..=287 => Kind::Sensitive,
+        _ => Kind::Other,
+    }
+}
+
+/// The kind of an operand, none for a literal.
+fn kind(operand: Operand) -> Option<Kind> {
+    match operand {
+        Literal(_) => None,
+        Register(n) => Some(kind_of_place(n as usize)),
+        Cell(n) => Some(kind_of_place(32 + n as usize)),
+        Public { .. } => Some(Kind::Public),
+        Sensitive { .. } => Some(Kind::Sensitive),
+        Table { .. } => Some(Kind::Other),
+    }
+}
+
+fn base(operand: Operand) -> Option<u8> {
+    match operand {
+        Public { base, .. } | Sensitive { base, .. } | Table { base, .. } => Some(base),
+        _ => None,
+    }
+}
+
+/// The lowest of the conditions 10 to 16 that holds for a line.
+fn mark_fault(line: &Line, line_count: usize) -> Option<u16> {
+    let arguments: Vec<Operand> = [line.first, line.second].into_iter().flatten().collect();
+    let operands: Vec<Operand> = line.destination.into_iter().chain(arguments.iter().copied()).collect();
+    let any_argument = |wanted: Kind| arguments.iter().any(|&operand| kind(operand) == Some(wanted));
+    let any_base = |low: u8, high: u8| {
+        operands.iter().any(|&operand| base(operand).is_some_and(|base| low <= base && base <= high))
+    };
+    let wrong_destination = if line.marked { Kind::Public } else { Kind::Sensitive };
+
+    let conditions = [
+        (10, any_base(0, 3) || operands.iter().any(|&operand| kind(operand) == Some(Kind::Other))),
+        (11, line.destination.is_some_and(|operand| kind(operand) == Some(wrong_destination))),
+        (12, !line.marked && any_argument(Kind::Sensitive) || any_base(16, 31)),
+        (13, line.marked && any_argument(Kind::Public)),
+        (14, line.marked && !matches!(line.opcode, Not | Mov | And | Orr | Xor)),
+        (15, line.marked && operands.iter().any(|operand| matches!(operand, Literal(2..)))),
+        (16, line.target.is_some_and(|target| target as usize > line_count)),
+    ];
+    conditions.iter().find(|(_, holds)| *holds).map(|(number, _)| *number)
+}
+
+fn mark_check(lines: &[Line]) -> Result<(), Answer> {
+    if lines.len() > MOST_CHECKED {
+        return Err(refused(9, 0));
+    }
+    for (at, line) in lines.iter().enumerate() {
+        if let Some(number) = mark_fault(line, lines.len()) {
+            return Err(refused(number, at));
+        }
+    }
+    Ok(())
+}
+
+// ---------------------------------------------------------------- expansion
+
+/// Bit 1 is 01, bit 0 is 10.
+pub fn code(bit: u8) -> u8 {
+    2 - bit
+}
+
+/// An argument of a marked line, its literal coded.
+fn coded(operand: Option<Operand>) -> Option<Operand> {
+    match operand {
+        Some(Literal(bit)) => Some(Literal(code(bit))),
+        other => other,
+    }
+}
+
+/// The part of the expansion that one accepted line becomes, targets unchanged.
+pub fn part(line: &Line) -> Vec<Line> {
+    if !line.marked {
+        return vec![*line];
+    }
+    let r = |n: u8| Some(Register(n));
+    let literal = |n: u8| Some(Literal(n));
+    let three = |opcode, destination, first, second| Line {
+        marked: true,
+        opcode,
+        destination,
+        first,
+        second,
+        target: None,
+    };
+    let mov = |destination, first| three(Mov, destination, first, None);
+    let (d, a, b) = (line.destination, coded(line.first), coded(line.second));
+    let table = |t: u8| {
+        vec![
+            mov(r(1), r(0)),
+            mov(r(1), a),
+            three(And, r(1), r(1), literal(3)),
+            three(Lsl, r(1), r(1), literal(1)),
+            three(Lsl, r(1), r(1), literal(1)),
+            mov(r(2), r(0)),
+            mov(r(2), b),
+            three(And, r(2), r(2), literal(3)),
+            three(Orr, r(1), r(1), r(2)),
+            mov(r(3), r(0)),
+            mov(r(3), Some(Table { base: 1, offset: t })),
+            mov(d, r(0)),
+            mov(d, r(3)),
+        ]
+    };
+    match line.opcode {
+        And => table(0),
+        Orr => table(16),
+        Xor => table(32),
+        Not => {
+            vec![
+                mov(r(1), r(0)),
+                mov(r(1), a),
+                three(Xor, r(1), r(1), literal(3)),
+                mov(d, r(0)),
+                mov(d, r(1)),
+            ]
+        }
+        Mov => vec![mov(r(3), r(0)), mov(r(3), a), mov(d, r(0)), mov(d, r(3))],
+        _ => unreachable!("an accepted marked line"),
+    }
+}
+
+/// The start of each line's part; the last entry is the expansion's line count.
+pub fn starts(lines: &[Line]) -> Vec<usize> {
+    let mut starts = vec![0];
+    for line in lines {
+        starts.push(starts[starts.len() - 1] + part(line).len());
+    }
+    starts
+}
+
+/// The expansion of an accepted program.
+pub fn expansion(lines: &[Line]) -> Vec<Line> {
+    let starts = starts(lines);
+    let mut joined: Vec<Line> = lines.iter().flat_map(part).collect();
+    for line in &mut joined {
+        line.target = line.target.map(|target| starts[target as usize] as u16);
+    }
+    joined
+}
+
+fn expand(lines: &[Line], out: &mut [u16]) -> Answer {
+    if let Err(answer) = mark_check(lines) {
+        return answer;
+    }
+    let expansion = expansion(lines);
+    if out.len() / SIX < expansion.len() {
+        return refused(17, 0);
+    }
+    for (line, six) in expansion.iter().zip(out.chunks_exact_mut(SIX)) {
+        six.copy_from_slice(&line.stored());
+    }
+    Answer::Counted(expansion.len() as u32)
+}
+
+// ---------------------------------------------------------------- images
+
+/// The table page of an image.
+pub fn table_page() -> [u8; 256] {
+    let mut page = [0; 256];
+    let operations: [fn(u8, u8) -> u8; 3] = [|a, b| a & b, |a, b| a | b, |a, b| a ^ b];
+    for (which, operation) in operations.iter().enumerate() {
+        for a in 0..2 {
+            for b in 0..2 {
+                page[16 * which + (4 * code(a) + code(b)) as usize] = code(operation(a, b));
+            }
+        }
+    }
+    page
+}
+
+const PAGE: usize = 32 + 256;
+
+fn to_image(bits: &[u8], image: &mut [u8]) -> Answer {
+    if bits.len() != STATE || image.len() != STATE {
+        return refused(18, 0);
+    }
+    for place in 0..STATE {
+        let most = match kind_of_place(place) {
+            Kind::Public => 255,
+            Kind::Sensitive => 1,
+            Kind::Other => 0,
+        };
+        if bits[place] > most {
+            return refused(19, 0);
+        }
+    }
+    let page = table_page();
+    for place in 0..STATE {
+        image[place] = match kind_of_place(place) {
+            Kind::Public => bits[place],
+            Kind::Sensitive => code(bits[place]),
+            Kind::Other if place >= PAGE => page[place - PAGE],
+            Kind::Other => 0,
+        };
+    }
+    Answer::Counted(STATE as u32)
+}
+
+fn from_image(image: &[u8], bits: &mut [u8]) -> Answer {
+    if image.len() != STATE || bits.len() != STATE {
+        return refused(18, 0);
+    }
+    let uncoded = |place: usize| kind_of_place(place) == Kind::Sensitive && !matches!(image[place], 1 | 2);
+    if (0..STATE).any(uncoded) || image[0] != 0 || image[PAGE..] != table_page() {
+        return refused(19, 0);
+    }
+    for place in 0..STATE {
+        bits[place] = match kind_of_place(place) {
+            Kind::Public => image[place],
+            Kind::Sensitive => 2 - image[place],
+            Kind::Other => 0,
+        };
+    }
+    Answer::Counted(STATE as u32)
+}
+
+// ---------------------------------------------------------------- machine
+
+/// The place of an operand in the state, none for a literal.
+fn place(operand: Operand, state: &[u8]) -> Option<usize> {
+    let sum = |base: u8, offset: u8| state[base as usize] as usize + offset as usize;
+    match operand {
+        Literal(_) => None,
+        Register(n) => Some(n as usize),
+        Cell(n) => Some(32 + n as usize),
+        Public { base, offset } => Some(32 + sum(base, offset) % 128),
+        Sensitive { base, offset } => Some(32 + 128 + sum(base, offset) % 128),
+        Table { base, offset } => Some(32 + 256 + sum(base, offset) % 256),
+    }
+}
+
+/// The ones in an operand's address, 0 where it has none.
+fn address_ones(operand: Option<Operand>, state: &[u8]) -> u16 {
+    match operand.and_then(|operand| place(operand, state)) {
+        Some(place) if place >= 32 => (place - 32).count_ones() as u16,
+        _ => 0,
+    }
+}
+
+fn value(operand: Option<Operand>, state: &[u8]) -> u8 {
+    match operand {
+        None => 0,
+        Some(Literal(n)) => n,
+        Some(other) => state[place(other, state).unwrap()],
+    }
+}
+
+/// One step: the next counter and the trace row.
+fn step(line: &Line, counter: u16, state: &mut [u8]) -> (u16, [u16; SIX]) {
+    let a = value(line.first, state);
+    let b = value(line.second, state);
+    let mut row = [
+        counter,
+        0,
+        0,
+        address_ones(line.first, state),
+        address_ones(line.second, state),
+        address_ones(line.destination, state),
+    ];
+    let taken = match line.opcode {
+        Jmp => true,
+        Beq => a == b,
+        Bne => a != b,
+        _ => false,
+    };
+    let result = match line.opcode {
+        Not if line.marked => a ^ 1,
+        Not => 255 - a,
+        Mov => a,
+        And => a & b,
+        Orr => a | b,
+        Xor => a ^ b,
+        Lsl => a.checked_shl(b as u32).unwrap_or(0),
+        Lsr => a.checked_shr(b as u32).unwrap_or(0),
+        Add => a.wrapping_add(b),
+        Mul => a.wrapping_mul(b),
+        Nop | Jmp | Beq | Bne => 0,
+    };
+    if let Some(destination) = line.destination {
+        let place = place(destination, state).unwrap();
+        row[1] = result.count_ones() as u16;
+        row[2] = (state[place] ^ result).count_ones() as u16;
+        state[place] = result;
+    }
+    (if taken { line.target.unwrap() } else { counter + 1 }, row)
+}
+
+fn run(lines: &[Line], start: u16, budget: u16, state: &mut [u8], trace: &mut [u16]) -> Answer {
+    if state.len() != STATE {
+        return refused(18, 0);
+    }
+    if trace.len() < SIX * budget as usize {
+        return refused(20, 0);
+    }
+    let mut counter = start;
+    let mut steps = 0;
+    while steps < budget && (counter as usize) < lines.len() {
+        let (next, row) = step(&lines[counter as usize], counter, state);
+        trace[SIX * steps as usize..][..SIX].copy_from_slice(&row);
+        counter = next;
+        steps += 1;
+    }
+    if (counter as usize) < lines.len() {
+        Answer::Spent { counter, steps }
+    } else {
+        Answer::Halted { counter, steps }
+    }
+}
+
+// ---------------------------------------------------------------- entry points
+
+/// The paper as one of the implementations.
+pub struct Paper;
+
+impl Dualrail for Paper {
+    fn read(&self, text: &[u8], store: &mut [u16]) -> Answer {
+        read(text, store)
+    }
+    fn write(&self, program: &[u16], out: &mut [u8]) -> Answer {
+        stored_program(program).map_or_else(|answer| answer, |lines| write(&lines, out))
+    }
+    fn check(&self, program: &[u16]) -> Answer {
+        stored_program(program)
+            .and_then(|lines| mark_check(&lines).map(|()| Answer::Counted(lines.len() as u32)))
+            .unwrap_or_else(|answer| answer)
+    }
+    fn expand(&self, program: &[u16], out: &mut [u16]) -> Answer {
+        stored_program(program).map_or_else(|answer| answer, |lines| expand(&lines, out))
+    }
+    fn to_image(&self, bits: &[u8], image: &mut [u8]) -> Answer {
+        to_image(bits, image)
+    }
+    fn from_image(&self, image: &[u8], bits: &mut [u8]) -> Answer {
+        from_image(image, bits)
+    }
+    fn run(&self, program: &[u16], start: u16, budget: u16, state: &mut [u8], trace: &mut [u16]) -> Answer {
+        stored_program(program).map_or_else(|answer| answer, |lines| run(&lines, start, budget, state, trace))
+    }
+}

@@ -1,0 +1,53 @@
+//! The plain C that the benchmark measures against (bench/plain.c).
+
+use crate::answer::{Answer, Dualrail};
+
+extern "C" {
+    fn plain_read(text: *const u8, text_length: usize, store: *mut u16, store_length: usize) -> u64;
+    fn plain_write(program: *const u16, program_length: usize, out: *mut u8, out_length: usize) -> u64;
+    fn plain_check(program: *const u16, program_length: usize) -> u64;
+    fn plain_expand(program: *const u16, program_length: usize, out: *mut u16, out_length: usize) -> u64;
+    fn plain_to_image(bits: *const u8, bits_length: usize, image: *mut u8, image_length: usize) -> u64;
+    fn plain_from_image(image: *const u8, image_length: usize, bits: *mut u8, bits_length: usize) -> u64;
+    fn plain_run(
+        program: *const u16,
+        program_length: usize,
+        start: u16,
+        budget: u16,
+        state: *mut u8,
+        state_length: usize,
+        trace: *mut u16,
+        trace_length: usize,
+    ) -> u64;
+}
+
+/// Plain C as one of the implementations; it packs its answers as the library does.
+pub struct Plain;
+
+#[rustfmt::skip]
+impl Dualrail for Plain {
+    fn read(&self, text: &[u8], store: &mut [u16]) -> Answer {
+        Answer::from_count(unsafe { plain_read(text.as_ptr(), text.len(), store.as_mut_ptr(), store.len()) })
+    }
+    fn write(&self, program: &[u16], out: &mut [u8]) -> Answer {
+        Answer::from_count(unsafe { plain_write(program.as_ptr(), program.len(), out.as_mut_ptr(), out.len()) })
+    }
+    fn check(&self, program: &[u16]) -> Answer {
+        Answer::from_count(unsafe { plain_check(program.as_ptr(), program.len()) })
+    }
+    fn expand(&self, program: &[u16], out: &mut [u16]) -> Answer {
+        Answer::from_count(unsafe { plain_expand(program.as_ptr(), program.len(), out.as_mut_ptr(), out.len()) })
+    }
+    fn to_image(&self, bits: &[u8], image: &mut [u8]) -> Answer {
+        Answer::from_count(unsafe { plain_to_image(bits.as_ptr(), bits.len(), image.as_mut_ptr(), image.len()) })
+    }
+    fn from_image(&self, image: &[u8], bits: &mut [u8]) -> Answer {
+        Answer::from_count(unsafe { plain_from_image(image.as_ptr(), image.len(), bits.as_mut_ptr(), bits.len()) })
+    }
+    fn run(&self, program: &[u16], start: u16, budget: u16, state: &mut [u8], trace: &mut [u16]) -> Answer {
+        Answer::from_run(unsafe {
+            plain_run(program.as_ptr(), program.len(), start, budget,
+                state.as_mut_ptr(), state.len(), trace.as_mut_ptr(), trace.len())
+        })
+    }
+}

@@ -1,0 +1,36 @@
+//! The library against the paper, on many random calls.
+
+use dualrail::compare::compare;
+use dualrail::plain::Plain;
+use dualrail::Library;
+
+const CASES: u64 = 60_000;
+
+fn from_environment(name: &str) -> Option<u64> {
+    std::env::var(name).ok().map(|value| value.parse().expect("a number"))
+}
+
+/// Every refusal and the long way must be met often. Another seed, more cases, or one case
+/// alone are had by DUALRAIL_SEED, DUALRAIL_CASES, DUALRAIL_CASE in the environment.
+#[test]
+fn library_against_paper() {
+    let seed = from_environment("DUALRAIL_SEED").unwrap_or(1);
+    if let Some(case) = from_environment("DUALRAIL_CASE") {
+        compare(&Library, seed, case, case + 1).unwrap_or_else(|report| panic!("{report}"));
+        return;
+    }
+    let cases = from_environment("DUALRAIL_CASES").unwrap_or(CASES).max(CASES);
+    let counts = compare(&Library, seed, 0, cases).unwrap_or_else(|report| panic!("{report}"));
+    println!("seed {seed}: {}", counts.show());
+    assert!(counts.calls >= 200_000);
+    for (number, &count) in counts.refusals.iter().enumerate().skip(1) {
+        assert!(count >= 300, "refusal {number} came {count} times only");
+    }
+    assert!(counts.halted >= 10_000 && counts.spent >= 10_000 && counts.whole_runs >= 10_000);
+}
+
+/// The measure of the benchmark does the same job.
+#[test]
+fn plain_c_against_paper() {
+    compare(&Plain, 1, 0, CASES / 4).unwrap_or_else(|report| panic!("plain C: {report}"));
+}

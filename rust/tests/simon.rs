@@ -1,0 +1,67 @@
+//! The example cipher: the published ciphertext, and equal traces.
+
+use dualrail::paper::{Paper, SIX, STATE};
+use dualrail::random::Random;
+use dualrail::simon::*;
+use dualrail::{Answer, Dualrail, Library};
+
+/// Runs the source from the bit state and the expansion from its image; gives the
+/// ciphertext, the source's trace and the expansion's.
+fn both(
+    on: &dyn Dualrail,
+    (source, expansion): &(Vec<u16>, Vec<u16>),
+    key: [u16; 4],
+    plaintext: [u16; 2],
+) -> ([u16; 2], Vec<u16>, Vec<u16>) {
+    let mut bits = load(key, plaintext);
+    let mut image = vec![0; STATE];
+    assert_eq!(on.to_image(&bits, &mut image), Answer::Counted(STATE as u32));
+    let source_trace = run_to_end(on, source, &mut bits);
+    let trace = run_to_end(on, expansion, &mut image);
+    let mut decoded = vec![0; STATE];
+    assert_eq!(on.from_image(&image, &mut decoded), Answer::Counted(STATE as u32));
+    assert_eq!(decoded, bits, "the expansion ends elsewhere, key {key:x?}, plaintext {plaintext:x?}");
+    (text_of(&bits), source_trace, trace)
+}
+
+#[test]
+fn the_cipher_on_words() {
+    assert_eq!(encrypt(KEY, PLAINTEXT), CIPHERTEXT);
+}
+
+#[test]
+fn published_ciphertext() {
+    assert!(TEXT.len() < 4_096);
+    for on in [&Library as &dyn Dualrail, &Paper] {
+        let programs = programs(on);
+        let (ciphertext, source_trace, trace) = both(on, &programs, KEY, PLAINTEXT);
+        assert_eq!(ciphertext, CIPHERTEXT);
+        println!(
+            "{} bytes, {} lines, {} steps; expansion {} lines, {} steps",
+            TEXT.len(),
+            programs.0.len() / SIX,
+            source_trace.len() / SIX,
+            programs.1.len() / SIX,
+            trace.len() / SIX
+        );
+    }
+}
+
+#[test]
+fn a_thousand_equal_traces() {
+    let on = &Library;
+    let programs = programs(on);
+    let (_, first_source, first) = both(on, &programs, KEY, PLAINTEXT);
+    let mut rng = Random::new(6);
+    let mut source_differs = 0;
+    for _ in 0..1_000 {
+        let key = [(); 4].map(|()| rng.next() as u16);
+        let plaintext = [(); 2].map(|()| rng.next() as u16);
+        let (ciphertext, source, trace) = both(on, &programs, key, plaintext);
+        assert_eq!(ciphertext, encrypt(key, plaintext), "key {key:x?}, plaintext {plaintext:x?}");
+        assert!(trace == first, "the trace differs, key {key:x?}, plaintext {plaintext:x?}");
+        source_differs += (source != first_source) as u32;
+    }
+    // The source alone does not hide them.
+    assert_eq!(source_differs, 1_000);
+}
