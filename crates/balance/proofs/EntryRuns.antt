@@ -2,32 +2,31 @@
 -- expansion is read back as its lines. Assumes nothing.
 use mathlib.Core.Path.{_≡_, refl, sym, ap, ap₂, _∙_, subst, subst₂}
 use mathlib.Core.Bool.{Bool, true, false, cond}
-use mathlib.Core.List.{List, [], _∷_, _++_, flatMap}
-use Prim.Native.Nat.{ℕ, _+_, _*_, _≤_, _<_}
+use mathlib.Core.List.{List, [], _∷_, flatMap}
+use Prim.Native.Nat.{ℕ, _+_, _*_, _≤_}
 use native.Mathlib.Omega.{arith}
 use borrow.Author.Tests.{le-ltb, eq-eqb}
-use lib.Dec.{T, ltb, eqb}
-use lib.ListN.{length, take, drop, getD}
+use lib.Dec.{ltb, eqb}
+use lib.ListN.{length, take, drop}
 use lib.Seq.{take-at}
 use Rattle.model.specs.declared.Line.{Line}
 use Rattle.model.specs.Limits.{stateSize, lineWidth, rowWidth}
 use Rattle.model.specs.Answers.{Report, done, refused, counted, Outcome, outcome, atFront}
 use Rattle.model.specs.Places.{State}
 use Rattle.model.specs.Stored.{codes, lineCount, lines, programCheck}
-use Rattle.model.specs.Step.{Row}
 use Rattle.model.specs.Run.{Ran, run, answer, runLeaves, runOutcome}
-use Rattle.model.specs.Images.{BitState, SamePublic, ButScratch, image, back, every, imageRight, mapAt, imageAt, carried, fromImageOutcome}
+use Rattle.model.specs.Images.{BitState, ButScratch, image, back, every, imageRight, imageAt, carried, fromImageOutcome}
 use Rattle.model.specs.Expansion.{start, expand}
 use Rattle.model.specs.Marks.{markCheck, markFault, firstBad, marksOf, Accepted}
 use Rattle.model.specs.Claims.{span}
 use Rattle.model.proofs.TestLaws.{is-true}
 use Rattle.model.proofs.PlaceLaws.{mapAt-length}
-use Rattle.model.proofs.StoredLaws.{codes-length, CheckAnswer, accepts, refuses, check-answer, length-lines}
+use Rattle.model.proofs.StoredLaws.{codes-length, CheckAnswer, accepts, refuses, check-answer}
 use Rattle.model.proofs.ExpansionLaws.{mark-accepted, expansion-check, expansion-lines}
 use Rattle.model.proofs.BackLaws.{back-image, image-passes}
-use Rattle.model.proofs.OutcomeLaws.{Written, expansion-written, image-made}
+use Rattle.model.proofs.OutcomeLaws.{expansion-written, image-made, first-store}
 use Rattle.model.proofs.DemandThree.{equal-traces, correspondence}
-use Rattle.balance.specs.EntryClaims.{Expanded, Imaged, listing, SameCalls, EqualTraceStores, FollowingCalls, SourceFollowed}
+use Rattle.balance.specs.EntryClaims.{Expanded, listing, SameCalls, EqualTraceStores, FollowingCalls, SourceFollowed, Twin, Followable}
 
 -- ---- the mark check's success is the line count
 
@@ -185,3 +184,34 @@ source-followed p e n E s v S k m x y hx hy =
       image = F .holds;
       back = λ lent l. back-goes (source .state) (expansion .state) lent (F .bits) (F .holds) l;
     }
+
+-- ---- the claims as `twin_runs` and `follow` promise them: of calls whose promises are given
+
+pub twin-claim : (q : List ℕ) (i b : ℕ) (v w : State) (x y : List ℕ) (one other : Outcome)
+    → one ≡ runOutcome q i b v x → other ≡ runOutcome q i b w y → Twin q i b v w x y → SameCalls x y one other
+twin-claim q i b v w x y one other e f W =
+    let C = equal-trace-stores (W .program) (W .written) (W .count) (W .expanded) (W .bits) (W .otherBits) v w (W .imaged) (W .otherImaged) (W .same) (W .line) b x y (W .room) (W .otherRoom) in
+    let g : (u : State) (z : List ℕ) → runOutcome q i b u z ≡ runOutcome (listing (W .written) (W .count)) (start (lines (W .program)) (W .line)) b u z =
+    λ u z. ap₂ (λ (a : List ℕ) (k : ℕ). runOutcome a k b u z) (W .isListing) (W .isStart) in
+    subst₂ (λ (a c : Outcome). SameCalls x y a c) (sym (e ∙ g v x)) (sym (f ∙ g w y)) C
+
+follow-calls : (p : List ℕ) (k m : ℕ) (s : State) (x q : List ℕ) (i b : ℕ) (v : State) (y : List ℕ) (lent : State) (source expansion : Outcome)
+    → source ≡ runOutcome p k m s x → expansion ≡ runOutcome q i b v y → Followable p k m s x q i b v y lent → FollowingCalls p b source expansion
+follow-calls p k m s x q i b v y lent source expansion e f W =
+    let B : ℕ = span (lines p) m k s in
+    let room : rowWidth * B ≤ length y = subst (λ (c : ℕ). rowWidth * c ≤ length y) (W .isSpan) (W .listingRoom) in
+    let C = source-followed p (W .written) (W .count) (W .expanded) s v (W .imaged) k m x y (W .room) room in
+    let g : runOutcome q i b v y ≡ runOutcome (listing (W .written) (W .count)) (start (lines p) k) B v y =
+    ap₂ (λ (a : List ℕ) (j : ℕ). runOutcome a j b v y) (W .isListing) (W .isStart) ∙ ap (λ (c : ℕ). runOutcome (listing (W .written) (W .count)) (start (lines p) k) c v y) (W .isSpan) in
+    subst (λ (c : ℕ). FollowingCalls p c source expansion) (sym (W .isSpan))
+    (subst₂ (λ (a c : Outcome). FollowingCalls p B a c) (sym e) (sym (f ∙ g)) C)
+
+pub follow-claim : (p : List ℕ) (k m : ℕ) (s : State) (x q : List ℕ) (i b : ℕ) (v : State) (y : List ℕ) (lent : State)
+    (a : Report) (s′ : State) (x′ : List ℕ) (c : Report) (v′ : State) (y′ : List ℕ) (d : Report) (back : State)
+    → outcome a (s′ ∷ x′ ∷ []) ≡ runOutcome p k m s x → outcome c (v′ ∷ y′ ∷ []) ≡ runOutcome q i b v y → outcome d (back ∷ []) ≡ fromImageOutcome v′ lent
+    → Followable p k m s x q i b v y lent → FollowingCalls p b (outcome a (s′ ∷ x′ ∷ [])) (outcome c (v′ ∷ y′ ∷ [])) × (back ≡ s′)
+follow-claim p k m s x q i b v y lent a s′ x′ c v′ y′ d back e f g W =
+    let C = follow-calls p k m s x q i b v y lent (outcome a (s′ ∷ x′ ∷ [])) (outcome c (v′ ∷ y′ ∷ [])) e f W in
+    let bits : s′ ≡ C .bits = ap first-store (C .sourceCall) in
+    let state : v′ ≡ C .state = ap first-store (C .expansionCall) in
+    (C, ap first-store (g ∙ ap (λ (u : State). fromImageOutcome u lent) state ∙ C .back lent (W .long)) ∙ sym bits)

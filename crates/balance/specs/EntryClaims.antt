@@ -5,7 +5,7 @@ use mathlib.Core.List.{List, [], _∷_}
 use Prim.Native.Nat.{ℕ, _*_, _≤_}
 use lib.ListN.{length, take}
 use Rattle.model.specs.Limits.{stateSize, lineWidth, rowWidth}
-use Rattle.model.specs.Answers.{Report, done, counted, Outcome, outcome, atFront}
+use Rattle.model.specs.Answers.{done, counted, Outcome, outcome, atFront}
 use Rattle.model.specs.Places.{State}
 use Rattle.model.specs.Stored.{lines}
 use Rattle.model.specs.Run.{runOutcome}
@@ -63,3 +63,36 @@ abbrev pub SourceFollowed : Type 0
 SourceFollowed = (p e : List ℕ) (n : ℕ) → Expanded p e n → (s v : State) → Imaged s v
     → (k m : ℕ) (x y : List ℕ) → rowWidth * m ≤ length x → rowWidth * span (lines p) m k s ≤ length y
     → FollowingCalls p (span (lines p) m k s) (runOutcome p k m s x) (runOutcome (listing e n) (start (lines p) k) (span (lines p) m k s) v y)
+
+-- ---- what a caller of `twin_runs` and of `follow` has in hand
+
+-- a listing that `expand` wrote, the start of a source line, and the images of two bit states that agree in the public places
+pub record Twin (q : List ℕ) (i b : ℕ) (v w : State) (x y : List ℕ) : Type 0 where
+  pub program : List ℕ
+  pub written : List ℕ
+  pub count : ℕ
+  pub line : ℕ
+  pub bits : State
+  pub otherBits : State
+  pub expanded : Expanded program written count
+  pub isListing : q ≡ listing written count
+  pub isStart : i ≡ start (lines program) line
+  pub imaged : Imaged bits v
+  pub otherImaged : Imaged otherBits w
+  pub same : SamePublic bits otherBits
+  pub room : rowWidth * b ≤ length x
+  pub otherRoom : rowWidth * b ≤ length y
+
+-- a program p with m steps from source line k and a bit state s, the listing that `expand` wrote of it, the line's start, the lengths of
+-- the parts of the lines done, and the image
+pub record Followable (p : List ℕ) (k m : ℕ) (s : State) (x : List ℕ) (q : List ℕ) (i b : ℕ) (v : State) (y : List ℕ) (lent : State) : Type 0 where
+  pub written : List ℕ
+  pub count : ℕ
+  pub expanded : Expanded p written count
+  pub isListing : q ≡ listing written count
+  pub isStart : i ≡ start (lines p) k
+  pub isSpan : b ≡ span (lines p) m k s
+  pub imaged : Imaged s v
+  pub room : rowWidth * m ≤ length x
+  pub listingRoom : rowWidth * b ≤ length y
+  pub long : length lent ≡ stateSize
