@@ -3,10 +3,10 @@
 use mathlib.Core.Path.{_≡_, refl, sym, ap, ap₂, _∙_, subst, subst₂}
 use mathlib.Core.Bool.{Bool, true, false, cond}
 use mathlib.Core.List.{List, [], _∷_, flatMap}
-use Prim.Native.Nat.{ℕ, _+_, _*_, _≤_}
+use Prim.Native.Nat.{ℕ, _*_, _≤_}
 use native.Mathlib.Omega.{arith}
 use borrow.Author.Tests.{le-ltb, eq-eqb}
-use lib.Dec.{ltb, eqb}
+use lib.Dec.{ltb}
 use lib.ListN.{length, take, drop}
 use lib.Seq.{take-at}
 use Rattle.model.specs.declared.Line.{Line}
@@ -17,54 +17,35 @@ use Rattle.model.specs.Stored.{codes, lineCount, lines, programCheck}
 use Rattle.model.specs.Run.{Ran, run, answer, runLeaves, runOutcome}
 use Rattle.model.specs.Images.{BitState, ButScratch, image, back, every, imageRight, imageAt, carried, fromImageOutcome}
 use Rattle.model.specs.Expansion.{start, expand}
-use Rattle.model.specs.Marks.{markCheck, markFault, firstBad, marksOf, Accepted}
+use Rattle.model.specs.Marks.{markCheck, Accepted}
 use Rattle.model.specs.Claims.{span}
 use Rattle.model.proofs.TestLaws.{is-true}
 use Rattle.model.proofs.PlaceLaws.{mapAt-length}
 use Rattle.model.proofs.StoredLaws.{codes-length, CheckAnswer, accepts, refuses, check-answer}
-use Rattle.model.proofs.ExpansionLaws.{mark-accepted, expansion-check, expansion-lines}
+use Rattle.model.proofs.ExpansionLaws.{MarkAnswer, counts, turnsDown, mark-answer, mark-accepted, expansion-check, expansion-lines}
 use Rattle.model.proofs.BackLaws.{back-image, image-passes}
 use Rattle.model.proofs.OutcomeLaws.{expansion-written, image-made, first-store}
 use Rattle.model.proofs.DemandThree.{equal-traces, correspondence}
 use Rattle.balance.specs.EntryClaims.{Expanded, listing, SameCalls, EqualTraceStores, FollowingCalls, SourceFollowed, Twin, Followable}
 
--- ---- the mark check's success is the line count
+-- ---- a program that `expand` did not refuse is checked and accepted
 
 never-done : {k l : ℕ} {vs : List ℕ} → refused k l ≡ done vs → ⊥
 never-done e = let z : _≡_ {A = ℕ} 0 1 = cc in omega arith
 
-bad-or-count : (n i : ℕ) (p : List Line) (vs : List ℕ) → firstBad n i p ≡ done vs → firstBad n i p ≡ counted n
-unfolding firstBad
-bad-or-count n i [] vs e = refl
-bad-or-count n i (l ∷ p) vs e = go (eqb (markFault n l) 0) (λ q. bad-or-count n (i + 1) p vs q) e
+accepted-source : (p vs : List ℕ) → markCheck p ≡ done vs → Accepted (lines p)
+accepted-source p vs e = go (mark-answer p)
   where
-    go : (t : Bool) → (firstBad n (i + 1) p ≡ done vs → firstBad n (i + 1) p ≡ counted n)
-        → cond t (firstBad n (i + 1) p) (refused (markFault n l) i) ≡ done vs → cond t (firstBad n (i + 1) p) (refused (markFault n l) i) ≡ counted n
-    go true ih e = ih e
-    go false ih e = absurd (never-done e)
+    go : MarkAnswer (markCheck p) → Accepted (lines p)
+    go (counts n q) = mark-accepted p n q
+    go (turnsDown k i q) = absurd (never-done (sym q ∙ e))
 
-marks-count : (p : List Line) (vs : List ℕ) → marksOf p ≡ done vs → marksOf p ≡ counted (length p)
-unfolding marksOf
-marks-count p vs e = go (ltb 1024 (length p)) e
-  where
-    go : (t : Bool) → cond t (refused 9 0) (firstBad (length p) 0 p) ≡ done vs → cond t (refused 9 0) (firstBad (length p) 0 p) ≡ counted (length p)
-    go true e = absurd (never-done e)
-    go false e = bad-or-count (length p) 0 p vs e
-
--- a program that `expand` did not refuse: checked, and accepted
-record Good (p : List ℕ) : Type 0 where
-  checked : programCheck p ≡ counted (lineCount p)
-  accepted : Accepted (lines p)
-
-good : (p vs : List ℕ) → markCheck p ≡ done vs → Good p
+checked-source : (p vs : List ℕ) → markCheck p ≡ done vs → programCheck p ≡ counted (lineCount p)
 unfolding markCheck
-good p vs e = go (check-answer p) refl
+checked-source p vs e = go (check-answer p) refl
   where
-    go : {r : Report} → CheckAnswer p r → programCheck p ≡ r → Good p
-    go (accepts q) w =
-        let c : programCheck p ≡ counted (lineCount p) = w ∙ q in
-        let m : marksOf (lines p) ≡ counted (length (lines p)) = marks-count (lines p) vs (rw c at e) in
-        record { checked = c; accepted = mark-accepted p (length (lines p)) (rw c m) }
+    go : {r : Report} → CheckAnswer p r → programCheck p ≡ r → programCheck p ≡ counted (lineCount p)
+    go (accepts q) w = w ∙ q
     go (refuses k i q) w = absurd (never-done (rw (w ∙ q) at e))
 
 -- ---- what `expand` wrote is a stored program whose lines are the expansion
@@ -78,15 +59,15 @@ record Listed (p e : List ℕ) (n : ℕ) : Type 0 where
 listed : (p e : List ℕ) (n : ℕ) → Expanded p e n → Listed p e n
 listed p e n E =
     let W = expansion-written p (E .lent) n e (E .call) in
-    let G = good p (W .values) (W .checked) in
+    let A = accepted-source p (W .values) (W .checked) in
     let c = flatMap codes (expand (lines p)) in
     let long : length c ≡ lineWidth * n = codes-length (expand (lines p)) ∙ ap (λ (m : ℕ). lineWidth * m) (sym (W .count)) in
     let is : listing e n ≡ c = ap (take (lineWidth * n)) (W .listing) ∙ take-at c (drop (length c) (E .lent)) (lineWidth * n) long in
     record {
-      source = G .checked;
-      accepted = G .accepted;
-      checked = ap programCheck is ∙ expansion-check (lines p) (G .accepted);
-      lines-are = ap lines is ∙ expansion-lines (lines p) (G .accepted);
+      source = checked-source p (W .values) (W .checked);
+      accepted = A;
+      checked = ap programCheck is ∙ expansion-check (lines p) A;
+      lines-are = ap lines is ∙ expansion-lines (lines p) A;
     }
 
 -- ---- a call of `run` that is not refused

@@ -5,17 +5,17 @@ use mathlib.Core.List.{List, [], _∷_, _++_, append-assoc, append-nil}
 use Prim.Native.Nat.{ℕ, zero, suc, _+_, _*_, _≤_, _<_}
 use native.Mathlib.Numerals.{add-one}
 use native.Mathlib.Omega.{arith}
-use lib.ListN.{length, take, drop, length-append}
+use lib.ListN.{length, getD, take, drop, length-append}
 use lib.Seq.{take-all}
 use Rattle.model.specs.declared.Mark.the-variants.{Unmarked, Marked}
-use Rattle.model.specs.declared.Operand.{Operand}
 use Rattle.model.specs.declared.Line.{Line}
 use Rattle.model.specs.Stored.{lineCount, lineAt, lines}
 use Rattle.model.specs.Expansion.{coded, macro, part, retarget, start, joined}
 use Rattle.model.proofs.Parts.{part-size}
 use Rattle.model.proofs.StoredLaws.{drop-line, length-lines}
 use Rattle.model.proofs.ExpansionLaws.{start-within}
-use Rattle.expander.specs.Writes.{put}
+use Rattle.expander.specs.Macros.{codedLine, Numbered}
+use Rattle.expander.specs.Writes.{encoded, put}
 use Rattle.expander.proofs.PartSizes.{plain-part, marked-part}
 use Rattle.expander.proofs.StoreWrites.{put-none, put-put, put-length}
 
@@ -64,5 +64,19 @@ module _ (f : ℕ → ℕ) (l : Line) (out o : List ℕ) (at : ℕ) where
   pub plain-put : (r : Line) → l .mark ≡ Unmarked → r ≡ retarget f l → o ≡ put out at (r ∷ []) → o ≡ put out at (part f l)
   plain-put r e q w = rw (plain-part l f e, ← q) w
 
-  pub marked-put : (a b : Operand) → l .mark ≡ Marked → a ≡ coded (l .first) → b ≡ coded (l .second) → o ≡ put out at (macro (l .opcode) (l .destination) a b) → o ≡ put out at (part f l)
-  marked-put a b e q r w = rw (marked-part l f e, ← q, ← r) w
+  pub marked-put : l .mark ≡ Marked → o ≡ put out at (macro (l .opcode) (l .destination) (coded (l .first)) (coded (l .second))) → o ≡ put out at (part f l)
+  marked-put e w = rw (marked-part l f e) w
+
+-- the numbers of the operands of a line whose arguments are coded
+module _ (n : List ℕ) (l c : Line) (e : n ≡ encoded c) (q : c ≡ codedLine l) where
+  six : n ≡ encoded (codedLine l)
+  six = e ∙ ap encoded q
+
+  pub number-of-destination : Numbered (getD n 2 0) (l .destination)
+  number-of-destination = ap (λ (m : List ℕ). getD m 2 0) six
+
+  pub number-of-first : Numbered (getD n 3 0) (coded (l .first))
+  number-of-first = ap (λ (m : List ℕ). getD m 3 0) six
+
+  pub number-of-second : Numbered (getD n 4 0) (coded (l .second))
+  number-of-second = ap (λ (m : List ℕ). getD m 4 0) six

@@ -1,28 +1,25 @@
 -- What the mark check and the expander answer, and what the lent store holds afterwards.
 -- Assumes nothing.
 use mathlib.Core.Path.{_≡_, sym, ap, _∙_}
-use mathlib.Core.Bool.{Bool, true, false, cond}
 use mathlib.Core.List.{List, [], _∷_, flatMap}
 use mathlib.Core.Logic.{inl, inr}
 use Prim.Native.Nat.{ℕ, _+_, _*_, _≤_, _<_}
 use native.Mathlib.Omega.{arith}
 use borrow.Author.Tests.{lt-ltb, le-ltb}
-use lib.Dec.{eqb, ltb}
 use lib.ListN.{length, getD}
 use denote.Enum.Declared.{tagOf}
 use types.Run.{OneOf}
 use Rattle.model.proofs.Answer.{the-type}
 use Rattle.model.specs.declared.Answer.{Answer}
 use Rattle.model.specs.declared.Answer.the-variants.{Count, Halted, Spent, Refused}
-use Rattle.model.specs.declared.Line.{Line}
-use Rattle.model.specs.Answers.{Report, done, report, outcome, counted, refused, andThen}
+use Rattle.model.specs.Answers.{done, report, outcome, counted, refused}
 use Rattle.model.specs.Stored.{codes, lineCount, lines, programCheck}
 use Rattle.model.specs.Expansion.{expandOutcome, start, joined, expand}
 use Rattle.model.specs.Limits.{maxAccepted, longest}
-use Rattle.model.specs.Marks.{markFault, firstBad, marksOf, markCheck, Accepted}
+use Rattle.model.specs.Marks.{marksOf, markCheck, Accepted}
 use Rattle.model.proofs.StoredLaws.{length-lines, codes-length}
 use Rattle.model.proofs.Acceptance.{accepted-right}
-use Rattle.model.proofs.ExpansionLaws.{expand-length, expansion-most, expansion-correct, joined-same, mark-accepted}
+use Rattle.model.proofs.ExpansionLaws.{expand-length, expansion-most, expansion-correct, joined-same, mark-accepted, MarkAnswer, counts, turnsDown, mark-answer}
 use Rattle.coding.proofs.Programs.{no-ending}
 use Rattle.expander.specs.Starts.{lookedUp, Starts}
 use Rattle.expander.specs.Writes.{put, written}
@@ -40,30 +37,12 @@ counts-not n (inl e) = omega arith
 counts-not n (inr (inl e)) = omega arith
 counts-not n (inr (inr e)) = omega arith
 
-values : Report → List ℕ
-values (done v) = v
-values (refused k i) = []
-
-either-few : (b : Bool) (x y : Report) → length (values x) ≤ 1 → length (values y) ≤ 1 → length (values (cond b x y)) ≤ 1
-either-few true x y h g = h
-either-few false x y h g = g
-
-first-few : (n i : ℕ) (ls : List Line) → length (values (firstBad n i ls)) ≤ 1
-unfolding firstBad values
-first-few n i [] = omega arith
-first-few n i (l ∷ ls) = either-few (eqb (markFault n l) 0) (firstBad n (i + 1) ls) (refused (markFault n l) i) (first-few n (i + 1) ls) (omega arith)
-
-check-few : (p : List ℕ) → length (values (markCheck p)) ≤ 1
-unfolding markCheck marksOf values
-check-few p = go (programCheck p)
-  where
-    go : (r : Report) → length (values (andThen r (marksOf (lines p)))) ≤ 1
-    go (done v) = either-few (ltb maxAccepted (length (lines p))) (refused 9 0) (firstBad (length (lines p)) 0 (lines p)) (omega arith) (first-few (length (lines p)) 0 (lines p))
-    go (refused k i) = omega arith
-
 no-ending-marked : (p : List ℕ) (k counter steps : ℕ) → done (k ∷ counter ∷ steps ∷ []) ≡ markCheck p → ⊥
-unfolding values
-no-ending-marked p k counter steps e = omega (arith, check-few p, ap (λ (r : Report). length (values r)) e)
+no-ending-marked p k counter steps e = go (mark-answer p)
+  where
+    go : MarkAnswer (markCheck p) → ⊥
+    go (counts n q) = let z : _≡_ {A = ℕ} 0 1 = cc in omega arith
+    go (turnsDown n i q) = let z : _≡_ {A = ℕ} 0 1 = cc in omega arith
 
 -- ---- the mark check
 

@@ -6,13 +6,14 @@ use mathlib.Core.Option.{some}
 use Prim.Native.Nat.{ℕ, zero, suc, _+_, _*_, _≤_, _<_}
 use native.Mathlib.Numerals.{add-one, add-two, add-three, add-four, add-five}
 use native.Mathlib.Omega.{arith}
-use lib.ListN.{length, getD, getElem?, set, take, drop, length-append, take-append-drop, length-drop, length-take}
+use lib.ListN.{length, getD, getElem?, set, take, drop, length-append, take-append-drop, length-drop}
 use lib.Seq.{sets-eq, take-at, drop-at, drop-drop, length-take-le, take-all}
 use Rattle.model.specs.declared.Line.{Line}
 use Rattle.model.specs.Stored.{codes}
 use Rattle.model.proofs.TestLaws.{is-true}
 use Rattle.model.specs.Lines.{AllCorrect}
 use Rattle.coding.proofs.Codes.{codes-fit}
+use Rattle.expander.specs.Macros.{Shows}
 use Rattle.expander.specs.Writes.{encoded, put}
 
 stored-length : (ls : List Line) → length (flatMap encoded ls) ≡ 6 * length ls
@@ -88,16 +89,19 @@ take-next [] j l e = let z : _≡_ {A = ℕ} 0 1 = cc in absurd (omega arith)
 take-next (x ∷ ls) zero l e = let q : x ≡ l = cc in rw q
 take-next (x ∷ ls) (suc j) l e = ap (λ (r : List Line). x ∷ r) (take-next ls j l e)
 
+-- the line at a number
+with-line : {P : Type 0} (ls : List Line) (j : ℕ) → j < length ls → ((l : Line) → getElem? ls j ≡ some l → P) → P
+with-line [] j h f = absurd (omega arith)
+with-line (x ∷ ls) zero h f = f x refl
+with-line (x ∷ ls) (suc j) h f = with-line ls j (omega arith) f
+
 module _ (out o : List ℕ) (at : ℕ) (ls : List Line) (h : 6 * (at + length ls) ≤ length out) where
-  pub next-line : (o′ : List ℕ) (j : ℕ) (l : Line) → j < length ls → o ≡ put out at (take j ls) → getElem? ls j ≡ some l → o′ ≡ put o (at + j) (l ∷ [])
+  pub next-line : (o′ r : List ℕ) (j : ℕ) → j < length ls → o ≡ put out at (take j ls) → Shows r ls j → ((l : Line) → r ≡ encoded l → o′ ≡ put o (at + j) (l ∷ []))
       → o′ ≡ put out at (take (j + 1) ls)
-  next-line o′ j l g e q w =
+  next-line o′ r j g e s w = with-line ls j g (λ l q.
       let n : length (take j ls) ≡ j = length-take-le j ls (omega arith) in
-      let r : put (put out at (take j ls)) (at + length (take j ls)) (l ∷ []) ≡ put out at (take j ls ++ l ∷ []) = put-put out at (take j ls) (l ∷ []) (omega arith) in
-      rw (w, e, add-one j, take-next ls j l q) (rw n at r)
+      let p : put (put out at (take j ls)) (at + length (take j ls)) (l ∷ []) ≡ put out at (take j ls ++ l ∷ []) = put-put out at (take j ls) (l ∷ []) (omega arith) in
+      rw (w l (s l q), e, add-one j, take-next ls j l q) (rw n at p))
 
   pub all-lines : (j : ℕ) → length ls ≤ j → o ≡ put out at (take j ls) → o ≡ put out at ls
   all-lines j g e = rw (e, take-all j ls g)
-
-  pub still-long : (j : ℕ) → o ≡ put out at (take j ls) → length o ≡ length out
-  still-long j e = ap length e ∙ put-length out at (take j ls) (omega (arith, length-take j ls))

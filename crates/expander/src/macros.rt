@@ -1,24 +1,48 @@
-// The lines that a line becomes: the pieces of the macros, each piece's line by its number, the macros, and how long a part is.
+// The lines that a line becomes, as stored numbers: the pieces of the macros, each piece's line by its number, the macros, and how
+// long a part is. Operands go in as their numbers, so that a line's are worked out once.
 ghost use mathlib.Core.Path.{_≡_};
-ghost use mathlib.Core.Option.{some};
-ghost use Prim.Native.Nat.{_<_};
-ghost use lib.ListN.{length, getElem?};
+ghost use mathlib.Core.List.{[], _∷_};
+ghost use Prim.Native.Nat.{ℕ};
+ghost use lib.ListN.{length};
+ghost use Rattle.model.specs.declared.Operand.{Operand};
 ghost use Rattle.model.specs.Code.{code};
-ghost use Rattle.model.specs.Expansion.{coded, markedLine, move, load, scale, combine, fetch, flip, writeBack, lookup, negate, copy, macro, size};
+ghost use Rattle.expander.specs.Macros.{codedLine, Numbered, Shows};
+ghost use Rattle.model.specs.Expansion.{coded, load, scale, combine, fetch, flip, writeBack, lookup, negate, copy, macro, size};
 use model::Line;
 use model::Mark;
 use model::Opcode;
 use model::Operand;
-use model::Target;
 
-// Both bits of a code, and where the three tables begin.
-const MASK: u8 = 3;
+// The numbers of the opcodes that the macros use,
+const MOV: u16 = 3;
 
-const AND_TABLE: u8 = 0;
+const AND: u16 = 4;
 
-const ORR_TABLE: u8 = 16;
+const ORR: u16 = 5;
 
-const XOR_TABLE: u8 = 32;
+const XOR: u16 = 6;
+
+const LSL: u16 = 7;
+
+// of r0 to r3, of #1, of #3, which is both bits of a code,
+const R0: u16 = coding::REGISTERS;
+
+const R1: u16 = coding::REGISTERS + 1;
+
+const R2: u16 = coding::REGISTERS + 2;
+
+const R3: u16 = coding::REGISTERS + 3;
+
+const ONE: u16 = coding::LITERALS + 1;
+
+const MASK: u16 = coding::LITERALS + 3;
+
+// and of ^r1+0, ^r1+16 and ^r1+32, the entries of the three tables.
+const AND_TABLE: u16 = coding::TABLES + 256;
+
+const ORR_TABLE: u16 = coding::TABLES + 272;
+
+const XOR_TABLE: u16 = coding::TABLES + 288;
 
 // Where the pieces after the first begin: in the macro of and, orr and xor, of not, and of mov.
 const SCALE_AT: usize = 2;
@@ -47,7 +71,7 @@ fn code_of(bit: u8) -> u8
 }
 
 // A literal of a marked line, coded.
-pub fn coded(operand: Operand) -> Operand
+fn coded(operand: Operand) -> Operand
     ensures { λ r. ⌜ r ≡ coded operand ⌝ }
 {
     match operand {
@@ -61,132 +85,115 @@ pub fn coded(operand: Operand) -> Operand
     }
 }
 
-// ---- the lines
-
-fn marked_line(opcode: Opcode, destination: Operand, first: Operand, second: Operand) -> Line
-    ensures { λ r. ⌜ r ≡ markedLine opcode destination first second ⌝ }
+// A line with its arguments coded.
+pub fn coded_line(line: Line) -> Line
+    ensures { λ r. ⌜ r ≡ codedLine line ⌝ }
 {
+    let mark = line.mark;
+    let opcode = line.opcode;
+    let destination = line.destination;
+    let a = line.first;
+    let b = line.second;
+    let target = line.target;
+    let first = coded(a);
+    let second = coded(b);
     Line {
-        mark: Mark::Marked,
+        mark,
         opcode,
         destination,
         first,
         second,
-        target: Target::Empty,
+        target,
     }
 }
 
-// mov d a
-fn mov(d: Operand, a: Operand) -> Line
-    ensures { λ r. ⌜ r ≡ move d a ⌝ }
+// ---- the lines, each as its six numbers: marked, and without a target
+
+fn marked_line(opcode: u16, d: u16, a: u16, b: u16) -> [u16; 6]
+    ensures { λ r. ⌜ r ≡ 1 ∷ opcode ∷ d ∷ a ∷ b ∷ 0 ∷ [] ⌝ }
 {
-    marked_line(Opcode::Mov, d, a, Operand::Empty)
+    [1, opcode, d, a, b, 0]
 }
 
-// mov rN a
-fn mov_to(n: u8, a: Operand) -> Line
-    ensures { λ r. ⌜ r ≡ move (Operand.Register n) a ⌝ }
+fn mov(d: u16, a: u16) -> [u16; 6]
+    ensures { λ r. ⌜ r ≡ 1 ∷ 3 ∷ d ∷ a ∷ 0 ∷ 0 ∷ [] ⌝ }
 {
-    mov(Operand::Register(n), a)
-}
-
-// mov d rN
-fn mov_from(d: Operand, n: u8) -> Line
-    ensures { λ r. ⌜ r ≡ move d (Operand.Register n) ⌝ }
-{
-    mov(d, Operand::Register(n))
-}
-
-// op rN rN #k
-fn with_literal(opcode: Opcode, n: u8, k: u8) -> Line
-    ensures { λ r. ⌜ r ≡ markedLine opcode (Operand.Register n) (Operand.Register n) (Operand.Literal k) ⌝ }
-{
-    marked_line(
-        opcode,
-        Operand::Register(n),
-        Operand::Register(n),
-        Operand::Literal(k),
-    )
+    marked_line(MOV, d, a, 0)
 }
 
 // ---- the pieces, line j of each
 
 // Register n precharged and loaded.
-fn load_line(j: usize, n: u8, a: Operand) -> Line
-    ensures { λ r. ⌜ (j < length (load n a) → getElem? (load n a) j ≡ some r) ⌝ }
+fn load_line(j: usize, n: u16, a: u16) -> [u16; 6]
+    ensures { λ r. ⌜ ((m : ℕ) (x : Operand) → Numbered n (Operand.Register m) → Numbered a x → Shows r (load m x) j) ⌝ }
 {
     if j == 0 {
-        return mov_to(n, Operand::Register(0));
+        return mov(n, R0);
     }
-    mov_to(n, a)
+    mov(n, a)
 }
 
 // The first code masked, and shifted to its place in the index.
-fn scale_line(j: usize) -> Line
-    ensures { λ r. ⌜ (j < length scale → getElem? scale j ≡ some r) ⌝ }
+fn scale_line(j: usize) -> [u16; 6]
+    ensures { λ r. ⌜ Shows r scale j ⌝ }
 {
     if j == 0 {
-        return with_literal(Opcode::And, 1, MASK);
+        return marked_line(AND, R1, R1, MASK);
     }
-    with_literal(Opcode::Lsl, 1, 1)
+    marked_line(LSL, R1, R1, ONE)
 }
 
 // The second code masked, and joined to the first.
-fn combine_line(j: usize) -> Line
-    ensures { λ r. ⌜ (j < length combine → getElem? combine j ≡ some r) ⌝ }
+fn combine_line(j: usize) -> [u16; 6]
+    ensures { λ r. ⌜ Shows r combine j ⌝ }
 {
     if j == 0 {
-        return with_literal(Opcode::And, 2, MASK);
+        return marked_line(AND, R2, R2, MASK);
     }
-    marked_line(
-        Opcode::Orr,
-        Operand::Register(1),
-        Operand::Register(1),
-        Operand::Register(2),
-    )
+    marked_line(ORR, R1, R1, R2)
 }
 
-// r3 precharged, and loaded from the table that begins at t.
-fn fetch_line(j: usize, t: u8) -> Line
-    ensures { λ r. ⌜ (j < length (fetch t) → getElem? (fetch t) j ≡ some r) ⌝ }
+// r3 precharged, and loaded from the table that t reads.
+fn fetch_line(j: usize, t: u16) -> [u16; 6]
+    ensures { λ r. ⌜ ((k : ℕ) → Numbered t (Operand.TableCell 1 k) → Shows r (fetch k) j) ⌝ }
 {
     if j == 0 {
-        return mov_to(3, Operand::Register(0));
+        return mov(R3, R0);
     }
-    mov_to(3, Operand::TableCell { base: 1, offset: t })
+    mov(R3, t)
 }
 
 // Both bits of the code flipped.
-fn flip_line() -> Line
-    ensures { λ r. ⌜ getElem? flip 0 ≡ some r ⌝ }
+fn flip_line() -> [u16; 6]
+    ensures { λ r. ⌜ Shows r flip 0 ⌝ }
 {
-    with_literal(Opcode::Xor, 1, MASK)
+    marked_line(XOR, R1, R1, MASK)
 }
 
 // The destination precharged, and written from register n.
-fn write_back_line(j: usize, n: u8, d: Operand) -> Line
-    ensures { λ r. ⌜ (j < length (writeBack n d) → getElem? (writeBack n d) j ≡ some r) ⌝ }
+fn write_back_line(j: usize, n: u16, d: u16) -> [u16; 6]
+    ensures { λ r. ⌜ ((m : ℕ) (x : Operand) → Numbered n (Operand.Register m) → Numbered d x → Shows r (writeBack m x) j) ⌝ }
 {
     if j == 0 {
-        return mov_from(d, 0);
+        return mov(d, R0);
     }
-    mov_from(d, n)
+    mov(d, n)
 }
 
 // ---- the macros, line j of each
 
 // and, orr, xor
-fn lookup_line(j: usize, t: u8, d: Operand, a: Operand, b: Operand) -> Line
-    ensures { λ r. ⌜ (j < length (lookup t d a b) → getElem? (lookup t d a b) j ≡ some r) ⌝ }
+fn lookup_line(j: usize, t: u16, d: u16, a: u16, b: u16) -> [u16; 6]
+    ensures { λ r. ⌜ ((k : ℕ) (x y z : Operand) → Numbered t (Operand.TableCell 1 k) → Numbered d x → Numbered a y → Numbered b z → Shows r (lookup k x y z) j) ⌝ }
 {
     if j < SCALE_AT {
-        return load_line(j, 1, a);
+        return load_line(j, R1, a);
     }
     if j < SECOND_AT {
         return scale_line(j - SCALE_AT);
     }
     if j < COMBINE_AT {
-        return load_line(j - SECOND_AT, 2, b);
+        return load_line(j - SECOND_AT, R2, b);
     }
     if j < FETCH_AT {
         return combine_line(j - COMBINE_AT);
@@ -194,35 +201,35 @@ fn lookup_line(j: usize, t: u8, d: Operand, a: Operand, b: Operand) -> Line
     if j < WRITE_BACK_AT {
         return fetch_line(j - FETCH_AT, t);
     }
-    write_back_line(j - WRITE_BACK_AT, 3, d)
+    write_back_line(j - WRITE_BACK_AT, R3, d)
 }
 
 // not
-fn negate_line(j: usize, d: Operand, a: Operand) -> Line
-    ensures { λ r. ⌜ (j < length (negate d a) → getElem? (negate d a) j ≡ some r) ⌝ }
+fn negate_line(j: usize, d: u16, a: u16) -> [u16; 6]
+    ensures { λ r. ⌜ ((x y : Operand) → Numbered d x → Numbered a y → Shows r (negate x y) j) ⌝ }
 {
     if j < FLIP_AT {
-        return load_line(j, 1, a);
+        return load_line(j, R1, a);
     }
     if j < FLIPPED_AT {
         return flip_line();
     }
-    write_back_line(j - FLIPPED_AT, 1, d)
+    write_back_line(j - FLIPPED_AT, R1, d)
 }
 
 // mov
-fn copy_line(j: usize, d: Operand, a: Operand) -> Line
-    ensures { λ r. ⌜ (j < length (copy d a) → getElem? (copy d a) j ≡ some r) ⌝ }
+fn copy_line(j: usize, d: u16, a: u16) -> [u16; 6]
+    ensures { λ r. ⌜ ((x y : Operand) → Numbered d x → Numbered a y → Shows r (copy x y) j) ⌝ }
 {
     if j < COPY_AT {
-        return load_line(j, 3, a);
+        return load_line(j, R3, a);
     }
-    write_back_line(j - COPY_AT, 3, d)
+    write_back_line(j - COPY_AT, R3, d)
 }
 
 // Line j of the macro of an opcode; where the opcode has none, there is no line j.
-pub fn macro_line(j: usize, o: Opcode, d: Operand, a: Operand, b: Operand) -> Line
-    ensures { λ r. ⌜ (j < length (macro o d a b) → getElem? (macro o d a b) j ≡ some r) ⌝ }
+pub fn macro_line(j: usize, o: Opcode, d: u16, a: u16, b: u16) -> [u16; 6]
+    ensures { λ r. ⌜ ((x y z : Operand) → Numbered d x → Numbered a y → Numbered b z → Shows r (macro o x y z) j) ⌝ }
 {
     match o {
         Opcode::Nop => mov(d, a),

@@ -6,21 +6,22 @@ ghost use lib.ListN.{length};
 ghost use Rattle.model.specs.Stored.{lineCount, lines};
 ghost use Rattle.model.specs.Expansion.{macro, part, size, start, joined};
 ghost use Rattle.expander.specs.Starts.{lookedUp};
-ghost use Rattle.expander.specs.Writes.{put};
+ghost use Rattle.model.specs.declared.Line.{Line};
+ghost use Rattle.model.specs.declared.Operand.{Operand};
+ghost use Rattle.expander.specs.Macros.{Numbered};
+ghost use Rattle.expander.specs.Writes.{encoded, put};
 use super::macros;
 use super::starts;
 use coding::LINE_WIDTH;
 use model::Line;
 use model::Mark;
 use model::Opcode;
-use model::Operand;
 
-// A line at line `at`.
-fn put_line(out: &mut [u16], at: usize, line: Line)
+// Six numbers at line `at`.
+fn put_line(out: &mut [u16], at: usize, numbers: [u16; 6])
     requires { ⌜ 6 * at + 6 ≤ length (now out) ⌝ }
-    ensures { λ r. ⌜ now (out .exit) ≡ put (now (out .entry)) at (line ∷ []) ⌝ }
+    ensures { λ r. ⌜ (length (now (out .exit)) ≡ length (now (out .entry))) × ((l : Line) → numbers ≡ encoded l → now (out .exit) ≡ put (now (out .entry)) at (l ∷ [])) ⌝ }
 {
-    let numbers = coding::encode(line);
     let k = LINE_WIDTH * at;
     out[k] = numbers[0];
     out[k + 1] = numbers[1];
@@ -30,10 +31,10 @@ fn put_line(out: &mut [u16], at: usize, line: Line)
     out[k + 5] = numbers[5];
 }
 
-// A macro from line `at` on.
-fn put_macro(out: &mut [u16], at: usize, o: Opcode, d: Operand, a: Operand, b: Operand)
-    requires { ⌜ 6 * (at + length (macro o d a b)) ≤ length (now out) ⌝ }
-    ensures { λ r. ⌜ now (out .exit) ≡ put (now (out .entry)) at (macro o d a b) ⌝ }
+// The macro of an opcode and of operands with these numbers, from line `at` on.
+fn put_macro(out: &mut [u16], at: usize, o: Opcode, d: u16, a: u16, b: u16)
+    requires { ⌜ 6 * (at + length (macro o Operand.Empty Operand.Empty Operand.Empty)) ≤ length (now out) ⌝ }
+    ensures { λ r. ⌜ ((x y z : Operand) → Numbered d x → Numbered a y → Numbered b z → now (out .exit) ≡ put (now (out .entry)) at (macro o x y z)) ⌝ }
 {
     let n = macros::macro_size(o) as usize;
     let mut j = 0;
@@ -50,12 +51,12 @@ fn put_part(out: &mut [u16], at: usize, line: Line, starts: &[u16; 1025])
 {
     let m = line.mark;
     let o = line.opcode;
-    let d = line.destination;
-    let a = line.first;
-    let b = line.second;
     match m {
-        Mark::Unmarked => put_line(out, at, starts::retarget(starts, line)),
-        Mark::Marked => put_macro(out, at, o, d, macros::coded(a), macros::coded(b)),
+        Mark::Unmarked => put_line(out, at, coding::encode(starts::retarget(starts, line))),
+        Mark::Marked => {
+            let numbers = coding::encode(macros::coded_line(line));
+            put_macro(out, at, o, numbers[2], numbers[3], numbers[4])
+        }
     }
 }
 

@@ -1,5 +1,5 @@
--- `expander::check` meets its contract. A program that the check of its numbers refuses is refused so; for any other the conditions of the marks decide.
--- Assumes nothing.
+-- `expander::check` meets its contract. A program that the check of its numbers refuses is refused so; for any other the
+-- conditions of the marks decide. Assumes nothing.
 use Rattle.expander.proofs.Outcomes.{check-stops, check-goes-on}
 use borrow.Author.Needs.{needs}
 use Rattle.expander.proofs.check.Statement.{statement}

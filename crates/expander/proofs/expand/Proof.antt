@@ -11,7 +11,9 @@ enum-told : tie.Need-enum-told
 enum-told c = search needs
 
 returns : tie.Need-returns
-returns c = expand-stops (c .before .before .before .before .args .program .now) (c .before .before .before .before .args .out .now) (c .before .check .result) (c .match .keys2) (c .before .check .ensures)
+returns c =
+    let s = c .before .before .before .before in
+    expand-stops (s .args .program .now) (s .args .out .now) (c .before .check .result) (c .match .keys2) (c .before .check .ensures)
 
 write-expansion-requires : tie.Need-write-expansion-requires
 write-expansion-requires c κs = accepted-by (c .before .before .before .before .before .before .args .program .now) (c .before .before .before .check .result) _ (c .before .before .before .check .ensures) (c .before .enum-told .given .1)
@@ -20,7 +22,9 @@ same-length : tie.Need-same-length
 same-length c = search needs
 
 returns-2 : tie.Need-returns-2
-returns-2 c = expand-goes-on (c .before .before .before .before .before .before .before .before .before .args .program .now) (c .before .before .before .before .before .before .before .before .before .args .out .now) _ (c .before .before .before .before .before .before .check .result) (c .before .before .write-expansion .result) _ (c .before .before .before .before .before .before .check .ensures) (c .before .before .before .before .enum-told .given .1) (c .before .before .write-expansion .ensures)
+returns-2 c =
+    let s = c .before .before .before .before .before .before .before .before .before in
+    expand-goes-on (s .args .program .now) (s .args .out .now) _ (c .before .before .before .before .before .before .check .result) (c .before .before .write-expansion .result) _ (c .before .before .before .before .before .before .check .ensures) (c .before .before .before .before .enum-told .given .1) (c .before .before .write-expansion .ensures)
 
 pub expand-spec : {M : Type 1} → statement M
 expand-spec =

@@ -1,5 +1,5 @@
--- `expander::write_expansion` meets its contract. The last of the starts is the length of the expansion; the starts that are looked up are those of the definition.
--- Assumes nothing.
+-- `expander::write_expansion` meets its contract. The last of the starts is the length of the expansion; the starts that are
+-- looked up are those of the definition. Assumes nothing.
 use native.Mathlib.Omega.{arith}
 use mathlib.Core.Path.{refl}
 use Rattle.expander.proofs.Outcomes.{accepted-few, total-is, total-few, no-room, all-written}
@@ -8,31 +8,45 @@ use Rattle.expander.proofs.write_expansion.Statement.{statement}
 use Rattle.expander.proofs.write_expansion.Tie as tie
 
 fill-starts-requires : tie.Need-fill-starts-requires
-fill-starts-requires c κs = (accepted-few (c .before .before .before .args .program .now) (c .before .before .before .pre), refl)
+fill-starts-requires c κs =
+    let s = c .before .before .before in
+    (accepted-few (s .args .program .now) (s .pre), refl)
 
 mul-total : tie.Need-mul-total
 mul-total c = search needs
 
 array-read-total : tie.Need-array-read-total
-array-read-total c = omega (arith, accepted-few (c .before .before .before .before .args .program .now) (c .before .before .before .before .pre))
+array-read-total c =
+    let s = c .before .before .before .before in
+    omega (arith, accepted-few (s .args .program .now) (s .pre))
 
 cast-if1 : tie.Need-cast-if1
-cast-if1 c = omega (arith, total-few (c .before .before .before .before .args .program .now) _ (c .before .before .before .before .args .out .now) (c .before .before .before .before .pre) (c .fill-starts .ensures))
+cast-if1 c =
+    let s = c .before .before .before .before in
+    omega (arith, total-few (s .args .program .now) _ (s .args .out .now) (s .pre) (c .fill-starts .ensures))
 
 returns : tie.Need-returns
-returns c = no-room (c .before .before .before .before .before .args .program .now) _ (c .before .before .before .before .before .args .out .now) (c .before .before .before .before .before .pre) (c .before .fill-starts .ensures) (c .if1 .taken)
+returns c =
+    let s = c .before .before .before .before .before in
+    no-room (s .args .program .now) _ (s .args .out .now) (s .pre) (c .before .fill-starts .ensures) (c .if1 .taken)
 
 put-parts-requires : tie.Need-put-parts-requires
-put-parts-requires c κs = omega (arith, total-is (c .before .before .before .before .before .before .before .args .program .now) _ (c .before .before .before .before .before .before .before .args .out .now) (c .before .before .before .before .before .before .before .pre) (c .before .before .before .fill-starts .ensures), c .before .before .if1 .left)
+put-parts-requires c κs =
+    let s = c .before .before .before .before .before .before .before in
+    omega (arith, total-is (s .args .program .now) _ (s .args .out .now) (s .pre) (c .before .before .before .fill-starts .ensures), c .before .before .if1 .left)
 
 cast-t18 : tie.Need-cast-t18
-cast-t18 c = omega (arith, total-few (c .before .before .before .before .before .before .before .before .before .before .args .program .now) _ (c .before .before .before .before .before .before .before .before .before .before .args .out .now) (c .before .before .before .before .before .before .before .before .before .before .pre) (c .before .before .before .before .before .before .fill-starts .ensures))
+cast-t18 c =
+    let s = c .before .before .before .before .before .before .before .before .before .before in
+    omega (arith, total-few (s .args .program .now) _ (s .args .out .now) (s .pre) (c .before .before .before .before .before .before .fill-starts .ensures))
 
 same-length : tie.Need-same-length
 same-length c = search needs
 
 returns-2 : tie.Need-returns-2
-returns-2 c = all-written (c .before .before .before .before .before .before .before .before .before .before .args .program .now) _ (c .before .before .before .before .before .before .before .before .before .before .args .out .now) (c .before .before .before .before .before .before .before .before .before .before .pre) (c .before .before .before .before .before .before .fill-starts .ensures) _ (c .before .before .before .before .before .if1 .left) (c .before .before .put-parts .ensures)
+returns-2 c =
+    let s = c .before .before .before .before .before .before .before .before .before .before in
+    all-written (s .args .program .now) _ (s .args .out .now) (s .pre) (c .before .before .before .before .before .before .fill-starts .ensures) _ (c .before .before .before .before .before .if1 .left) (c .before .before .put-parts .ensures)
 
 pub write-expansion-spec : {M : Type 1} → statement M
 write-expansion-spec =

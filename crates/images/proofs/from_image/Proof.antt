@@ -6,10 +6,14 @@ use Rattle.images.proofs.from_image.Statement.{statement}
 use Rattle.images.proofs.from_image.Tie as tie
 
 returns : tie.Need-returns
-returns c = first-long imageRight back (c .before .before .before .args .image .now) (c .before .before .before .args .bits .now) (c .if1 .taken)
+returns c =
+    let s = c .before .before .before in
+    first-long imageRight back (s .args .image .now) (s .args .bits .now) (c .if1 .taken)
 
 returns-2 : tie.Need-returns-2
-returns-2 c = second-long imageRight back (c .before .before .before .before .args .image .now) (c .before .before .before .before .args .bits .now) (c .before .if1 .left) (c .if2 .taken)
+returns-2 c =
+    let s = c .before .before .before .before in
+    second-long imageRight back (s .args .image .now) (s .args .bits .now) (c .before .if1 .left) (c .if2 .taken)
 
 places-right-requires : tie.Need-places-right-requires
 places-right-requires c κs = search needs
@@ -22,11 +26,14 @@ same-length c = search needs
 
 returns-3 : tie.Need-returns-3
 returns-3 c =
+    let s = c .before .before .before .before .before .before .before .before .before .before in
     let d = c .before .before .before .before in
-    goes-over imageRight back (c .before .before .before .before .before .before .before .before .before .before .args .image .now) (c .before .before .before .before .before .before .before .before .before .before .args .bits .now) _ _ (d .before .before .before .if1 .left) (d .before .before .if2 .left) (d .before .places-right .ensures) (d .if3 .taken) (c .before .before .put-back .ensures)
+    goes-over imageRight back (s .args .image .now) (s .args .bits .now) _ _ (d .before .before .before .if1 .left) (d .before .before .if2 .left) (d .before .places-right .ensures) (d .if3 .taken) (c .before .before .put-back .ensures)
 
 returns-4 : tie.Need-returns-4
-returns-4 c = turned-down imageRight back (c .before .before .before .before .before .before .args .image .now) (c .before .before .before .before .before .before .args .bits .now) _ (c .before .before .before .if1 .left) (c .before .before .if2 .left) (c .before .places-right .ensures) (c .if3 .left)
+returns-4 c =
+    let s = c .before .before .before .before .before .before in
+    turned-down imageRight back (s .args .image .now) (s .args .bits .now) _ (c .before .before .before .if1 .left) (c .before .before .if2 .left) (c .before .places-right .ensures) (c .if3 .left)
 
 pub from-image-spec : {M : Type 1} → statement M
 from-image-spec =

@@ -1,5 +1,5 @@
--- `images::places_right` meets its contract. The loop's invariant: the test of the places that are left answers as the whole does.
--- Assumes nothing.
+-- `images::places_right` meets its contract. The loop's invariant: the test of the places that are left answers as the whole
+-- does. Assumes nothing.
 use Prim.Native.Nat.{_≤_, _-_}
 use mathlib.Core.Path.{_≡_, refl, sym, _∙_}
 use lib.ListN.{length, drop}

@@ -45,8 +45,9 @@ same-length c = search needs
 returns : tie.Need-returns Inv-loop μ-loop
 unfolding image
 returns c =
-    let a = c .before .before .before .before .args in
-    map-all imageAt (a .bits .now) (a .image .now) _ _ (c .before .loop .inv .2) (c .loop-test .left) (c .before .before .before .before .pre)
+    let s = c .before .before .before .before in
+    let a = s .args in
+    map-all imageAt (a .bits .now) (a .image .now) _ _ (c .before .loop .inv .2) (c .loop-test .left) (s .pre)
 
 pub put-image-spec : {M : Type 1} → statement M
 put-image-spec =

@@ -6,10 +6,14 @@ use Rattle.images.proofs.to_image.Statement.{statement}
 use Rattle.images.proofs.to_image.Tie as tie
 
 returns : tie.Need-returns
-returns c = first-long bitRight image (c .before .before .before .args .bits .now) (c .before .before .before .args .image .now) (c .if1 .taken)
+returns c =
+    let s = c .before .before .before in
+    first-long bitRight image (s .args .bits .now) (s .args .image .now) (c .if1 .taken)
 
 returns-2 : tie.Need-returns-2
-returns-2 c = second-long bitRight image (c .before .before .before .before .args .bits .now) (c .before .before .before .before .args .image .now) (c .before .if1 .left) (c .if2 .taken)
+returns-2 c =
+    let s = c .before .before .before .before in
+    second-long bitRight image (s .args .bits .now) (s .args .image .now) (c .before .if1 .left) (c .if2 .taken)
 
 bits-right-requires : tie.Need-bits-right-requires
 bits-right-requires c κs = search needs
@@ -22,11 +26,14 @@ same-length c = search needs
 
 returns-3 : tie.Need-returns-3
 returns-3 c =
+    let s = c .before .before .before .before .before .before .before .before .before .before in
     let d = c .before .before .before .before in
-    goes-over bitRight image (c .before .before .before .before .before .before .before .before .before .before .args .bits .now) (c .before .before .before .before .before .before .before .before .before .before .args .image .now) _ _ (d .before .before .before .if1 .left) (d .before .before .if2 .left) (d .before .bits-right .ensures) (d .if3 .taken) (c .before .before .put-image .ensures)
+    goes-over bitRight image (s .args .bits .now) (s .args .image .now) _ _ (d .before .before .before .if1 .left) (d .before .before .if2 .left) (d .before .bits-right .ensures) (d .if3 .taken) (c .before .before .put-image .ensures)
 
 returns-4 : tie.Need-returns-4
-returns-4 c = turned-down bitRight image (c .before .before .before .before .before .before .args .bits .now) (c .before .before .before .before .before .before .args .image .now) _ (c .before .before .before .if1 .left) (c .before .before .if2 .left) (c .before .bits-right .ensures) (c .if3 .left)
+returns-4 c =
+    let s = c .before .before .before .before .before .before in
+    turned-down bitRight image (s .args .bits .now) (s .args .image .now) _ (c .before .before .before .if1 .left) (c .before .before .if2 .left) (c .before .bits-right .ensures) (c .if3 .left)
 
 pub to-image-spec : {M : Type 1} → statement M
 to-image-spec =

@@ -1,24 +1,20 @@
 -- `expander::macros::fetch_line` meets its contract. The first line and the second. Assumes nothing.
-use Rattle.expander.proofs.PieceLines.{at-number, second}
-use Rattle.model.specs.Expansion.{fetch}
-use mathlib.Core.Path.{refl}
+use Rattle.expander.proofs.PieceLines.{fetch-first, fetch-second}
 use borrow.Author.Needs.{needs}
 use Rattle.expander.proofs.macros.fetch_line.Statement.{statement}
 use Rattle.expander.proofs.macros.fetch_line.Tie as tie
 
-mov-to-requires : tie.Need-mov-to-requires
-mov-to-requires c κs = search needs
+mov-requires : tie.Need-mov-requires
+mov-requires c κs = search needs
 
 returns : tie.Need-returns
-unfolding fetch
-returns c = λ h. at-number (fetch (c .before .before .args .t)) _ 0 _ _ (c .before .if1 .taken) (c .mov-to .ensures) refl
+returns c = λ k h. fetch-first _ _ k (c .before .if1 .taken) (c .mov .ensures)
 
-mov-to-requires-2 : tie.Need-mov-to-requires-2
-mov-to-requires-2 c κs = search needs
+mov-requires-2 : tie.Need-mov-requires-2
+mov-requires-2 c κs = search needs
 
 returns-2 : tie.Need-returns-2
-unfolding fetch
-returns-2 c = λ h. at-number (fetch (c .before .before .args .t)) _ 1 _ _ (second _ (c .before .if1 .left) h) (c .mov-to2 .ensures) refl
+returns-2 c = λ k h. fetch-second _ _ _ k h (c .before .if1 .left) (c .mov2 .ensures)
 
 pub fetch-line-spec : {M : Type 1} → statement M
-fetch-line-spec = tie.close (tie.spec mov-to-requires returns mov-to-requires-2 returns-2)
+fetch-line-spec = tie.close (tie.spec mov-requires returns mov-requires-2 returns-2)

@@ -88,55 +88,55 @@ mov-requires-8 c κs = search needs
 
 returns : tie.Need-returns
 unfolding macro
-returns c = no-lines _ Nop _ _ _ _ _ (c .before .enum-told .given .1) refl
+returns c = λ x y z hd ha hb. no-lines _ _ Nop x y z _ (c .before .enum-told .given .1) refl
 
 returns-2 : tie.Need-returns-2
 unfolding macro
-returns-2 c = no-lines _ Jmp _ _ _ _ _ (c .before .enum-told2 .given .1) refl
+returns-2 c = λ x y z hd ha hb. no-lines _ _ Jmp x y z _ (c .before .enum-told2 .given .1) refl
 
 returns-3 : tie.Need-returns-3
 unfolding macro
-returns-3 c = at-opcode _ Not _ _ _ _ _ (c .before .enum-told3 .given .1) (c .negate-line .ensures)
+returns-3 c = λ x y z hd ha hb. at-opcode _ _ Not x y z _ (c .before .enum-told3 .given .1) (c .negate-line .ensures x y hd ha)
 
 returns-4 : tie.Need-returns-4
 unfolding macro
-returns-4 c = at-opcode _ Mov _ _ _ _ _ (c .before .enum-told4 .given .1) (c .copy-line .ensures)
+returns-4 c = λ x y z hd ha hb. at-opcode _ _ Mov x y z _ (c .before .enum-told4 .given .1) (c .copy-line .ensures x y hd ha)
 
 returns-5 : tie.Need-returns-5
 unfolding macro
-returns-5 c = at-opcode _ And _ _ _ _ _ (c .before .enum-told5 .given .1) (c .lookup-line .ensures)
+returns-5 c = λ x y z hd ha hb. at-opcode _ _ And x y z _ (c .before .enum-told5 .given .1) (c .lookup-line .ensures 0 x y z refl hd ha hb)
 
 returns-6 : tie.Need-returns-6
 unfolding macro
-returns-6 c = at-opcode _ Orr _ _ _ _ _ (c .before .enum-told6 .given .1) (c .lookup-line2 .ensures)
+returns-6 c = λ x y z hd ha hb. at-opcode _ _ Orr x y z _ (c .before .enum-told6 .given .1) (c .lookup-line2 .ensures 16 x y z refl hd ha hb)
 
 returns-7 : tie.Need-returns-7
 unfolding macro
-returns-7 c = at-opcode _ Xor _ _ _ _ _ (c .before .enum-told7 .given .1) (c .lookup-line3 .ensures)
+returns-7 c = λ x y z hd ha hb. at-opcode _ _ Xor x y z _ (c .before .enum-told7 .given .1) (c .lookup-line3 .ensures 32 x y z refl hd ha hb)
 
 returns-8 : tie.Need-returns-8
 unfolding macro
-returns-8 c = no-lines _ Lsl _ _ _ _ _ (c .before .enum-told8 .given .1) refl
+returns-8 c = λ x y z hd ha hb. no-lines _ _ Lsl x y z _ (c .before .enum-told8 .given .1) refl
 
 returns-9 : tie.Need-returns-9
 unfolding macro
-returns-9 c = no-lines _ Lsr _ _ _ _ _ (c .before .enum-told9 .given .1) refl
+returns-9 c = λ x y z hd ha hb. no-lines _ _ Lsr x y z _ (c .before .enum-told9 .given .1) refl
 
 returns-10 : tie.Need-returns-10
 unfolding macro
-returns-10 c = no-lines _ Add _ _ _ _ _ (c .before .enum-told10 .given .1) refl
+returns-10 c = λ x y z hd ha hb. no-lines _ _ Add x y z _ (c .before .enum-told10 .given .1) refl
 
 returns-11 : tie.Need-returns-11
 unfolding macro
-returns-11 c = no-lines _ Mul _ _ _ _ _ (c .before .enum-told11 .given .1) refl
+returns-11 c = λ x y z hd ha hb. no-lines _ _ Mul x y z _ (c .before .enum-told11 .given .1) refl
 
 returns-12 : tie.Need-returns-12
 unfolding macro
-returns-12 c = no-lines _ Beq _ _ _ _ _ (c .before .enum-told12 .given .1) refl
+returns-12 c = λ x y z hd ha hb. no-lines _ _ Beq x y z _ (c .before .enum-told12 .given .1) refl
 
 returns-13 : tie.Need-returns-13
 unfolding macro
-returns-13 c = no-lines _ Bne _ _ _ _ _ (c .before .enum-told13 .given .1) refl
+returns-13 c = λ x y z hd ha hb. no-lines _ _ Bne x y z _ (c .before .enum-told13 .given .1) refl
 
 pub macro-line-spec : {M : Type 1} → statement M
 macro-line-spec =

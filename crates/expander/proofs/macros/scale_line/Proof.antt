@@ -1,25 +1,20 @@
 -- `expander::macros::scale_line` meets its contract. The first line, and the two shifts, which are alike. Assumes nothing.
-use Rattle.expander.proofs.PieceLines.{at-number, shifts}
-use Rattle.model.specs.Expansion.{scale}
-use mathlib.Core.Path.{refl}
+use Rattle.expander.proofs.PieceLines.{scale-first, scale-rest}
 use borrow.Author.Needs.{needs}
 use Rattle.expander.proofs.macros.scale_line.Statement.{statement}
 use Rattle.expander.proofs.macros.scale_line.Tie as tie
 
-with-literal-requires : tie.Need-with-literal-requires
-with-literal-requires c κs = search needs
+marked-line-requires : tie.Need-marked-line-requires
+marked-line-requires c κs = search needs
 
 returns : tie.Need-returns
-unfolding scale
-returns c = λ h. at-number scale _ 0 _ _ (c .before .if1 .taken) (c .with-literal .ensures) refl
+returns c = scale-first _ _ (c .before .if1 .taken) (c .marked-line .ensures)
 
-with-literal-requires-2 : tie.Need-with-literal-requires-2
-with-literal-requires-2 c κs = search needs
+marked-line-requires-2 : tie.Need-marked-line-requires-2
+marked-line-requires-2 c κs = search needs
 
 returns-2 : tie.Need-returns-2
-unfolding scale
-returns-2 c = λ h. shifts _ _ (c .before .if1 .left) h (c .with-literal2 .ensures)
+returns-2 c = scale-rest _ _ (c .before .if1 .left) (c .marked-line2 .ensures)
 
 pub scale-line-spec : {M : Type 1} → statement M
-scale-line-spec =
-    tie.close (tie.spec with-literal-requires returns with-literal-requires-2 returns-2)
+scale-line-spec = tie.close (tie.spec marked-line-requires returns marked-line-requires-2 returns-2)

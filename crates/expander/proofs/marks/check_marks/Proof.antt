@@ -1,5 +1,5 @@
--- `expander::marks::check_marks` meets its contract. The loop's invariant: the check of the lines that are left answers as the whole does.
--- Assumes nothing.
+-- `expander::marks::check_marks` meets its contract. The loop's invariant: the check of the lines that are left answers as the
+-- whole does. Assumes nothing.
 use Prim.Native.Nat.{_≤_, _-_}
 use mathlib.Core.Path.{_≡_, _∙_}
 use lib.ListN.{drop}
@@ -36,7 +36,9 @@ cast-t10 : tie.Need-cast-t10 Inv-loop μ-loop
 cast-t10 c = omega arith
 
 returns-2 : tie.Need-returns-2 Inv-loop μ-loop
-returns-2 c = fails (c .before .before .before .before .before .before .before .args .program .now) _ (c .before .before .before .before .loop .i) _ _ (c .before .before .before .loop-test .taken) (c .before .before .line-at .ensures) (c .before .mark-fault .ensures) (c .if2 .taken) ∙ c .before .before .before .before .loop .inv .1
+returns-2 c =
+    let l = c .before .before .before .before .loop in
+    fails (c .before .before .before .before .before .before .before .args .program .now) _ (l .i) _ _ (c .before .before .before .loop-test .taken) (c .before .before .line-at .ensures) (c .before .mark-fault .ensures) (c .if2 .taken) ∙ l .inv .1
 
 add-i : tie.Need-add-i Inv-loop μ-loop
 add-i c = omega arith
@@ -45,7 +47,9 @@ loop-less : tie.Need-loop-less Inv-loop μ-loop
 loop-less c = omega arith
 
 loop-again : tie.Need-loop-again Inv-loop μ-loop
-loop-again c = (omega arith, passes (c .before .before .before .before .before .before .before .args .program .now) _ (c .before .before .before .before .loop .i) _ _ (c .before .before .before .loop-test .taken) (c .before .before .line-at .ensures) (c .before .mark-fault .ensures) (c .if2 .left) ∙ c .before .before .before .before .loop .inv .1)
+loop-again c =
+    let l = c .before .before .before .before .loop in
+    (omega arith, passes (c .before .before .before .before .before .before .before .args .program .now) _ (l .i) _ _ (c .before .before .before .loop-test .taken) (c .before .before .line-at .ensures) (c .before .mark-fault .ensures) (c .if2 .left) ∙ l .inv .1)
 
 cast-t11 : tie.Need-cast-t11 Inv-loop μ-loop
 cast-t11 c = omega arith

@@ -1,5 +1,5 @@
--- `expander::marks::is_public_place` meets its contract. Its tests are the definition's; past r31 one test is left.
--- Assumes nothing.
+-- `expander::marks::is_public_place` meets its contract. Its tests are the definition's; past r31 one test is left. Assumes
+-- nothing.
 use borrow.Author.Needs.{needs}
 use Rattle.expander.proofs.KindTests.{public-rest}
 use Rattle.model.specs.Places.{kind}

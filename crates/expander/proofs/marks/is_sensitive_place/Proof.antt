@@ -1,5 +1,5 @@
--- `expander::marks::is_sensitive_place` meets its contract. Its tests are the definition's but for the first; past the public cells one test is left.
--- Assumes nothing.
+-- `expander::marks::is_sensitive_place` meets its contract. Its tests are the definition's but for the first; past the public
+-- cells one test is left. Assumes nothing.
 use borrow.Author.Needs.{needs}
 use Rattle.expander.proofs.KindTests.{sensitive-low, sensitive-registers, public-cells, sensitive-rest}
 use Rattle.expander.proofs.marks.is_sensitive_place.Statement.{statement}

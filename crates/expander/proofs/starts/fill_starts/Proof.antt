@@ -1,5 +1,5 @@
--- `expander::starts::fill_starts` meets its contract. The loop's invariant: the sum is the start of line i, and the starts up to it stand in the array.
--- Assumes nothing.
+-- `expander::starts::fill_starts` meets its contract. The loop's invariant: the sum is the start of line i, and the starts up to
+-- it stand in the array. Assumes nothing.
 use Prim.Native.Nat.{_≤_, _+_, _-_, _*_}
 use mathlib.Core.Path.{_≡_, sym}
 use lib.ListN.{length, length-set}
@@ -48,8 +48,10 @@ loop-less c = search needs
 
 loop-again : tie.Need-loop-again Inv-loop μ-loop
 loop-again c =
-    let e : c .before .before .before .loop .sum + c .size-of .result ≡ start (lines (c .before .before .before .before .before .args .program .now)) (c .before .before .before .loop .i + 1) = start-next (c .before .before .before .before .before .args .program .now) (c .before .before .before .loop .i) _ _ _ (c .before .before .loop-test .taken) (c .before .before .before .loop .inv .2) (c .before .line-at .ensures) (c .size-of .ensures) in
-    (omega arith, omega (arith, size-most (c .before .line-at .result), c .size-of .ensures), e, simp length-set (c .before .before .before .loop .inv .3), starts-more (c .before .before .before .loop .starts) _ (c .before .before .before .loop .i) _ (omega (arith, c .before .before .before .loop .inv .3)) (c .before .before .before .loop .inv .4) e)
+    let s = c .before .before .before .before .before in
+    let l = c .before .before .before .loop in
+    let e : l .sum + c .size-of .result ≡ start (lines (s .args .program .now)) (l .i + 1) = start-next (s .args .program .now) (l .i) _ _ _ (c .before .before .loop-test .taken) (l .inv .2) (c .before .line-at .ensures) (c .size-of .ensures) in
+    (omega arith, omega (arith, size-most (c .before .line-at .result), c .size-of .ensures), e, simp length-set (l .inv .3), starts-more (l .starts) _ (l .i) _ (omega (arith, l .inv .3)) (l .inv .4) e)
 
 returns : tie.Need-returns Inv-loop μ-loop
 returns c = starts-all _ _ _ _ (omega arith) (c .before .loop .inv .4)

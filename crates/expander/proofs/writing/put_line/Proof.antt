@@ -6,9 +6,6 @@ use borrow.Author.Needs.{needs}
 use Rattle.expander.proofs.writing.put_line.Statement.{statement}
 use Rattle.expander.proofs.writing.put_line.Tie as tie
 
-encode-requires : tie.Need-encode-requires
-encode-requires c κs = search needs
-
 mul-k : tie.Need-mul-k
 mul-k c = search needs
 
@@ -85,13 +82,12 @@ same-length : tie.Need-same-length
 same-length c = simp length-set
 
 returns : tie.Need-returns
-returns c = one-line _ _ _ _ (c .encode .ensures) (c .before .before .pre)
+returns c = (simp length-set, λ l e. one-line _ _ _ l e (c .pre))
 
 pub put-line-spec : {M : Type 1} → statement M
 put-line-spec =
     tie.close
     (tie.spec
-    encode-requires
     mul-k
     array-read-out
     mul-out

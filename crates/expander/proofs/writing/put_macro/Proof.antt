@@ -1,19 +1,23 @@
--- `expander::writing::put_macro` meets its contract. The loop's invariant: the first j lines of the macro are written, the rest of the store is as it was.
--- Assumes nothing.
-use Prim.Native.Nat.{_≤_, _+_, _-_, _*_}
+-- `expander::writing::put_macro` meets its contract. The loop's invariant: the first j lines of the macro are written, the rest
+-- of the store is as it was. Assumes nothing.
+use Prim.Native.Nat.{_≤_, _-_}
 use mathlib.Core.Path.{_≡_, refl, sym, _∙_}
 use lib.ListN.{length, take}
 use native.Mathlib.Omega.{arith}
 use borrow.Author.Needs.{needs}
+use Rattle.model.specs.declared.Operand.{Operand}
+use Rattle.model.specs.declared.Operand.the-variants.{Empty}
 use Rattle.model.specs.Expansion.{macro}
 use Rattle.model.proofs.ExpansionLaws.{macro-length}
+use Rattle.expander.specs.Macros.{Numbered}
 use Rattle.expander.specs.Writes.{put}
-use Rattle.expander.proofs.StoreWrites.{put-none, next-line, all-lines, still-long}
+use Rattle.expander.proofs.StoreWrites.{put-none, next-line, all-lines}
 use Rattle.expander.proofs.writing.put_macro.Statement.{statement}
 use Rattle.expander.proofs.writing.put_macro.Tie as tie
 
 abbrev Inv-loop : tie.InvT-loop
-Inv-loop out₀ at o d a b n j₀ out j = (j ≤ n) × (n ≡ length (macro o d a b)) × (length out ≡ length out₀) × (out ≡ put out₀ at (take j (macro o d a b)))
+Inv-loop out₀ at o d a b n j₀ out j = (j ≤ n) × (n ≡ length (macro o Empty Empty Empty)) × (length out ≡ length out₀)
+    × ((x y z : Operand) → Numbered d x → Numbered a y → Numbered b z → out ≡ put out₀ at (take j (macro o x y z)))
 
 abbrev μ-loop : tie.MeasureT-loop
 μ-loop out₀ at o d a b n j₀ out j = n - j
@@ -25,7 +29,7 @@ cast-n : tie.Need-cast-n Inv-loop μ-loop
 cast-n c = search needs
 
 loop-holds : tie.Need-loop-holds Inv-loop μ-loop
-loop-holds c = (omega arith, c .macro-size .ensures ∙ macro-length (c .before .before .args .o) _ _ _ _ _ _, refl, sym (put-none _ _))
+loop-holds c = (omega arith, c .macro-size .ensures, refl, λ x y z hd ha hb. sym (put-none _ _))
 
 add-put-line : tie.Need-add-put-line Inv-loop μ-loop
 add-put-line c = omega (arith, c .before .before .before .before .before .pre)
@@ -44,16 +48,23 @@ loop-less c = search needs
 
 loop-again : tie.Need-loop-again Inv-loop μ-loop
 loop-again c =
-    let ls = macro (c .before .before .before .before .before .before .before .before .before .args .o) (c .before .before .before .before .before .before .before .before .before .args .d) (c .before .before .before .before .before .before .before .before .before .args .a) (c .before .before .before .before .before .before .before .before .before .args .b) in
-    let h : 6 * (c .before .before .before .before .before .before .before .before .before .args .at + length ls) ≤ length (c .before .before .before .before .before .before .before .before .before .args .out .now) = c .before .before .before .before .before .before .before .before .before .pre in
-    let e : c .before .before .put-line .last .0 ≡ put (c .before .before .before .before .before .before .before .before .before .args .out .now) (c .before .before .before .before .before .before .before .before .before .args .at) (take (c .before .before .before .before .before .before .loop .j + 1) ls) = next-line _ _ _ ls h _ (c .before .before .before .before .before .before .loop .j) _ (omega arith) (c .before .before .before .before .before .before .loop .inv .3) (c .before .before .before .macro-line .ensures (omega arith)) (c .before .before .put-line .ensures) in
-    (omega arith, c .before .before .before .before .before .before .loop .inv .1, still-long _ _ _ ls h (c .before .before .before .before .before .before .loop .j + 1) e, e)
+    let s = c .before .before .before .before .before .before .before .before .before in
+    let l = c .before .before .before .before .before .before .loop in (
+      omega arith,
+      l .inv .1,
+      c .before .before .put-line .ensures .0 ∙ l .inv .2,
+      λ x y z hd ha hb.
+          next-line _ _ _ (macro (s .args .o) x y z) (omega (arith, s .pre, macro-length (s .args .o) x y z Empty Empty Empty)) _ _ (l .j) (omega (arith, macro-length (s .args .o) x y z Empty Empty Empty))
+          (l .inv .3 x y z hd ha hb) (c .before .before .before .macro-line .ensures x y z hd ha hb) (c .before .before .put-line .ensures .1),
+    )
 
 same-length : tie.Need-same-length Inv-loop μ-loop
 same-length c = search needs
 
 returns : tie.Need-returns Inv-loop μ-loop
-returns c = all-lines _ _ _ (macro (c .before .before .before .before .args .o) (c .before .before .before .before .args .d) (c .before .before .before .before .args .a) (c .before .before .before .before .args .b)) (c .before .before .before .before .pre) (c .before .loop .j) (omega arith) (c .before .loop .inv .3)
+returns c =
+    let s = c .before .before .before .before in
+    λ x y z hd ha hb. all-lines _ _ _ (macro (s .args .o) x y z) (omega (arith, s .pre, macro-length (s .args .o) x y z Empty Empty Empty)) (c .before .loop .j) (omega (arith, macro-length (s .args .o) x y z Empty Empty Empty)) (c .before .loop .inv .3 x y z hd ha hb)
 
 pub put-macro-spec : {M : Type 1} → statement M
 put-macro-spec =

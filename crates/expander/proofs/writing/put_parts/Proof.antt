@@ -1,5 +1,5 @@
--- `expander::writing::put_parts` meets its contract. The loop's invariant: the parts of the first i lines are written, and `at` is the start of line i.
--- Assumes nothing.
+-- `expander::writing::put_parts` meets its contract. The loop's invariant: the parts of the first i lines are written, and `at`
+-- is the start of line i. Assumes nothing.
 use Prim.Native.Nat.{_≤_, _+_, _-_}
 use mathlib.Core.Path.{_≡_, refl, sym}
 use lib.ListN.{length, take}
@@ -27,7 +27,10 @@ line-at-requires : tie.Need-line-at-requires Inv-loop μ-loop
 line-at-requires c κs = search needs
 
 put-part-requires : tie.Need-put-part-requires Inv-loop μ-loop
-put-part-requires c κs = omega (arith, start-next (c .before .before .before .before .before .before .args .program .now) (c .before .before .before .loop .i) (c .before .before .before .loop .at) (size (c .before .line-at .result)) _ (c .before .before .loop-test .taken) (c .before .before .before .loop .inv .1) (c .before .line-at .ensures) refl, most (c .before .before .before .before .before .before .args .program .now) (c .before .before .before .before .before .before .args .out .now) (lookedUp (c .before .before .before .before .before .before .args .starts .now)) (c .before .before .before .before .before .before .pre) (c .before .before .before .loop .i + 1), c .before .before .before .before .before .before .pre)
+put-part-requires c κs =
+    let s = c .before .before .before .before .before .before in
+    let l = c .before .before .before .loop in
+    omega (arith, start-next (s .args .program .now) (l .i) (l .at) (size (c .before .line-at .result)) _ (c .before .before .loop-test .taken) (l .inv .1) (c .before .line-at .ensures) refl, most (s .args .program .now) (s .args .out .now) (lookedUp (s .args .starts .now)) (s .pre) (l .i + 1), s .pre)
 
 size-of-requires : tie.Need-size-of-requires Inv-loop μ-loop
 size-of-requires c κs = search needs
@@ -36,7 +39,10 @@ cast-at : tie.Need-cast-at Inv-loop μ-loop
 cast-at c = search needs
 
 add-at : tie.Need-add-at Inv-loop μ-loop
-add-at c = record { fits = omega (arith, start-next (c .before .before .before .before .before .before .before .before .before .before .args .program .now) (c .before .before .before .before .before .before .before .loop .i) (c .before .before .before .before .before .before .before .loop .at) (size (c .before .before .before .before .before .line-at .result)) _ (c .before .before .before .before .before .before .loop-test .taken) (c .before .before .before .before .before .before .before .loop .inv .1) (c .before .before .before .before .before .line-at .ensures) refl, c .size-of .ensures, most (c .before .before .before .before .before .before .before .before .before .before .args .program .now) (c .before .before .before .before .before .before .before .before .before .before .args .out .now) (lookedUp (c .before .before .before .before .before .before .before .before .before .before .args .starts .now)) (c .before .before .before .before .before .before .before .before .before .before .pre) (c .before .before .before .before .before .before .before .loop .i + 1), c .before .before .before .before .before .before .before .before .before .before .pre) }
+add-at c =
+    let s = c .before .before .before .before .before .before .before .before .before .before in
+    let l = c .before .before .before .before .before .before .before .loop in
+    record { fits = omega (arith, start-next (s .args .program .now) (l .i) (l .at) (size (c .before .before .before .before .before .line-at .result)) _ (c .before .before .before .before .before .before .loop-test .taken) (l .inv .1) (c .before .before .before .before .before .line-at .ensures) refl, c .size-of .ensures, most (s .args .program .now) (s .args .out .now) (lookedUp (s .args .starts .now)) (s .pre) (l .i + 1), s .pre) }
 
 add-i : tie.Need-add-i Inv-loop μ-loop
 add-i c = search needs
@@ -46,16 +52,20 @@ loop-less c = search needs
 
 loop-again : tie.Need-loop-again Inv-loop μ-loop
 loop-again c =
-    let p = c .before .before .before .before .before .before .before .before .before .before .args .program .now in
-    let f = lookedUp (c .before .before .before .before .before .before .before .before .before .before .args .starts .now) in
-    let e : c .before .before .before .put-part .last .0 ≡ put (c .before .before .before .before .before .before .before .before .before .before .args .out .now) 0 (joined f (take (c .before .before .before .before .before .before .before .loop .i + 1) (lines p))) = next-part (c .before .before .before .before .before .before .before .before .before .before .args .program .now) (c .before .before .before .before .before .before .before .before .before .before .args .out .now) (lookedUp (c .before .before .before .before .before .before .before .before .before .before .args .starts .now)) (c .before .before .before .before .before .before .before .before .before .before .pre) _ _ (c .before .before .before .before .before .before .before .loop .i) (c .before .before .before .before .before .before .before .loop .at) _ (c .before .before .before .before .before .before .loop-test .taken) (c .before .before .before .before .before .before .before .loop .inv .3) (c .before .before .before .before .before .before .before .loop .inv .1) (c .before .before .before .before .before .line-at .ensures) (c .before .before .before .put-part .ensures) in
-    (omega arith, start-next p (c .before .before .before .before .before .before .before .loop .i) (c .before .before .before .before .before .before .before .loop .at) _ _ (c .before .before .before .before .before .before .loop-test .taken) (c .before .before .before .before .before .before .before .loop .inv .1) (c .before .before .before .before .before .line-at .ensures) (c .size-of .ensures), parts-long (c .before .before .before .before .before .before .before .before .before .before .args .program .now) (c .before .before .before .before .before .before .before .before .before .before .args .out .now) (lookedUp (c .before .before .before .before .before .before .before .before .before .before .args .starts .now)) (c .before .before .before .before .before .before .before .before .before .before .pre) _ (c .before .before .before .before .before .before .before .loop .i + 1) e, e)
+    let s = c .before .before .before .before .before .before .before .before .before .before in
+    let l = c .before .before .before .before .before .before .before .loop in
+    let p = s .args .program .now in
+    let f = lookedUp (s .args .starts .now) in
+    let e : c .before .before .before .put-part .last .0 ≡ put (s .args .out .now) 0 (joined f (take (l .i + 1) (lines p))) = next-part (s .args .program .now) (s .args .out .now) (lookedUp (s .args .starts .now)) (s .pre) _ _ (l .i) (l .at) _ (c .before .before .before .before .before .before .loop-test .taken) (l .inv .3) (l .inv .1) (c .before .before .before .before .before .line-at .ensures) (c .before .before .before .put-part .ensures) in
+    (omega arith, start-next p (l .i) (l .at) _ _ (c .before .before .before .before .before .before .loop-test .taken) (l .inv .1) (c .before .before .before .before .before .line-at .ensures) (c .size-of .ensures), parts-long (s .args .program .now) (s .args .out .now) (lookedUp (s .args .starts .now)) (s .pre) _ (l .i + 1) e, e)
 
 same-length : tie.Need-same-length Inv-loop μ-loop
 same-length c = search needs
 
 returns : tie.Need-returns Inv-loop μ-loop
-returns c = all-parts (c .before .before .before .before .args .program .now) (c .before .before .before .before .args .out .now) (lookedUp (c .before .before .before .before .args .starts .now)) (c .before .before .before .before .pre) _ (c .before .loop .i) (c .loop-test .left) (c .before .loop .inv .3)
+returns c =
+    let s = c .before .before .before .before in
+    all-parts (s .args .program .now) (s .args .out .now) (lookedUp (s .args .starts .now)) (s .pre) _ (c .before .loop .i) (c .loop-test .left) (c .before .loop .inv .3)
 
 pub put-parts-spec : {M : Type 1} → statement M
 put-parts-spec =
