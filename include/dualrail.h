@@ -1,0 +1,48 @@
+/* Dual-rail expander and trace machine: the proved library, for C.
+ *
+ * Build target/staticlib/libdualrail.a with `rt staticlib dualrail` and link it. Nothing allocates and nothing outside the lent memory is
+ * touched; an empty slice may have any pointer. Lengths count elements. docs/STORED-LINES.md lays down the numbers of a stored line.
+ *
+ * An answer is one number. Of all functions but dualrail_run: number * 2^32 + value, where number 0 is success and value its count, and
+ * any other number is a refusal of document 01 and value its line. Of dualrail_run: ending * 2^32 + counter * 2^16 + steps, ending 0
+ * halted and 1 spent, or, refused, number * 2^48 + line. A refusal leaves all lent memory as it was, except that a refused reading
+ * leaves the lines before the bad one in the store.
+ */
+#ifndef DUALRAIL_H
+#define DUALRAIL_H
+
+#include <stddef.h>
+#include <stdint.h>
+
+#ifdef __cplusplus
+extern "C" {
+#endif
+
+/* Reads line text into a store of lines, six numbers to a line; counts the lines. Refusals 7, 8, 1 to 6. */
+uint64_t dualrail_read(const uint8_t *text, size_t text_length, uint16_t *store, size_t store_length);
+
+/* Writes the text of a stored program; counts the bytes. Refusals 7, 3 to 6, 17. */
+uint64_t dualrail_write(const uint16_t *program, size_t program_length, uint8_t *out, size_t out_length);
+
+/* Checks the marks of a stored program; counts its lines. Refusals 7, 3 to 6, 9 to 16. */
+uint64_t dualrail_check(const uint16_t *program, size_t program_length);
+
+/* Writes the dual-rail expansion of an accepted program; counts its lines. The mark check's refusals, then 17. */
+uint64_t dualrail_expand(const uint16_t *program, size_t program_length, uint16_t *out, size_t out_length);
+
+/* Makes the image of a bit state; counts 544 bytes. Refusals 18, 19. */
+uint64_t dualrail_to_image(const uint8_t *bits, size_t bits_length, uint8_t *image, size_t image_length);
+
+/* Goes the way back from an image to its bit state; counts 544 bytes. Refusals 18, 19. */
+uint64_t dualrail_from_image(const uint8_t *image, size_t image_length, uint8_t *bits, size_t bits_length);
+
+/* Runs a stored program from a start counter with a budget of steps, changes the state and writes a row of six numbers for each step.
+ * Refusals 7, 3 to 6, 18, 20. */
+uint64_t dualrail_run(const uint16_t *program, size_t program_length, uint16_t start, uint16_t budget, uint8_t *state,
+                      size_t state_length, uint16_t *trace, size_t trace_length);
+
+#ifdef __cplusplus
+}
+#endif
+
+#endif
