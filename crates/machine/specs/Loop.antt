@@ -10,23 +10,28 @@ use Rattle.model.specs.declared.Line.{Line}
 use Rattle.model.specs.declared.Operand.{Operand}
 use Rattle.model.specs.Limits.{rowWidth}
 use Rattle.model.specs.Answers.{halted, spent, Outcome, outcome}
-use Rattle.model.specs.Places.{State, address}
+use Rattle.model.specs.Places.{State, address, place}
 use Rattle.model.specs.Stored.{lineAt}
 use Rattle.model.specs.Step.{weight, distance, argument, Row, next, after, row}
 use Rattle.machine.specs.declared.Fetched.{Fetched}
+use Rattle.machine.specs.declared.Place.{Place}
 use Rattle.machine.specs.declared.steps.Run.{Run}
 
--- what the cell n reads, with its number
-abbrev pub cellOf : State → ℕ → Fetched
-cellOf s n = record { value = getD s (32 + n) 0; address = n }
+-- the place of the cell n, and its number's weight
+abbrev pub cellPlace : ℕ → Place
+cellPlace n = record { at = 32 + n; weight = weight n }
 
--- what an argument reads, and its address
+-- the place that an operand names, and its address's weight
+abbrev pub placeOf : Operand → State → Place
+placeOf o s = record { at = place o s; weight = weight (address o s) }
+
+-- what an argument reads, and its address's weight
 abbrev pub argumentOf : Mark → Operand → State → Fetched
-argumentOf m o s = record { value = argument m o s; address = address o s }
+argumentOf m o s = record { value = argument m o s; weight = weight (address o s) }
 
--- the row of line k, from the old value, the result and the addresses
+-- the row of line k, from the old value, the result and the addresses' weights
 abbrev pub rowOf : ℕ → ℕ → ℕ → ℕ → ℕ → ℕ → Row
-rowOf k old result first second destination = k ∷ weight result ∷ distance old result ∷ weight first ∷ weight second ∷ weight destination ∷ []
+rowOf k old result first second destination = k ∷ weight result ∷ distance old result ∷ first ∷ second ∷ destination ∷ []
 
 -- a trace store with row n replaced
 abbrev pub putRow : List ℕ → ℕ → Row → List ℕ

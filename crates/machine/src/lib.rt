@@ -1,4 +1,5 @@
 // The machine: what a line reads, makes and writes, one step with its trace row, and a run of steps.
+// A step works on the stored numbers themselves, by the tests that decode them, and makes no line.
 // Reading and writing are total: past the end of a state 0 is read and nothing written, so no operand has to be in range.
 ghost use mathlib.Core.Path.{_≡_};
 ghost use mathlib.Core.Bool.{cond};
@@ -7,16 +8,13 @@ ghost use Prim.Native.Nat.{suc, _+_, _*_, _/_, _%_, _^_, _<_, _≤_};
 ghost use lib.ListN.{length, getD, set};
 ghost use Rattle.model.specs.Limits.{maxLines, rowWidth};
 ghost use Rattle.model.specs.Answers.{report, outcome};
-ghost use Rattle.model.specs.Places.{address, place};
+ghost use Rattle.model.specs.Stored.{registers, operandOf, targetOf, lineOf};
 ghost use Rattle.model.specs.Step.{weight, distance, shiftBy, negated, alu, taken, targetLine, next, after, row};
 ghost use Rattle.model.specs.Run.{runOutcome};
-ghost use Rattle.machine.specs.Loop.{cellOf, argumentOf, rowOf, putRow, machine, runFrom};
+ghost use Rattle.machine.specs.Loop.{cellPlace, placeOf, argumentOf, rowOf, putRow, machine, runFrom};
 use model::Answer;
-use model::Line;
 use model::Mark;
 use model::Opcode;
-use model::Operand;
-use model::Target;
 use steps::Run;
 
 mod steps;
@@ -108,13 +106,11 @@ fn is_taken(opcode: Opcode, x: u8, y: u8) -> bool
     }
 }
 
-fn target_line(target: Target) -> u16
-    ensures { λ r. ⌜ r ≡ targetLine target ⌝ }
+// The line that a target's number names; 0 where it names none.
+fn target_line(code: u16) -> u16
+    ensures { λ r. ⌜ r ≡ targetLine (targetOf code) ⌝ }
 {
-    match target {
-        Target::Empty => 0,
-        Target::Line(line) => line,
-    }
+    if code == 0 { 0 } else { code - 1 }
 }
 
 // The counter after a line.
@@ -141,108 +137,110 @@ pub fn write(state: &mut [u8], at: usize, byte: u8)
     }
 }
 
-// The cell within its page of `span` cells.
-fn indirect(state: &[u8], base: u8, offset: u8, span: u16) -> u16
-    requires { ⌜ 0 < span ⌝ }
-    ensures { λ r. ⌜ r ≡ (getD (now (state .entry)) base 0 + offset) % span ⌝ }
+// The cell that n, base and offset in one number, names within its page of `span` cells.
+fn indirect(state: &[u8], n: u16, span: u16) -> u16
+    requires { ⌜ (0 < span) × (span ≤ 256) ⌝ }
+    ensures { λ r. ⌜ r ≡ (getD (now (state .entry)) (n / span) 0 + n % span) % span ⌝ }
 {
-    ((read(state, base as usize) as u16) + (offset as u16)) % span
+    ((read(state, (n / span) as usize) as u16) + n % span) % span
 }
 
-// The number of the cell that an operand names; 0 where it names none.
-pub fn address(operand: Operand, state: &[u8]) -> u16
-    ensures { λ r. ⌜ r ≡ address operand (now (state .entry)) ⌝ }
+// A place, past the state where there is none, and its address's weight.
+struct Place {
+    at: usize,
+    weight: u16,
+}
+
+fn cell_place(n: u16) -> Place
+    ensures { λ r. ⌜ r ≡ cellPlace n ⌝ }
 {
-    match operand {
-        Operand::Empty => 0,
-        Operand::Literal(_) => 0,
-        Operand::Register(_) => 0,
-        Operand::Cell(n) => n,
-        Operand::PublicCell { base, offset } => indirect(state, base, offset, 128),
-        Operand::SensitiveCell { base, offset } => 128 + indirect(state, base, offset, 128),
-        Operand::TableCell { base, offset } => 256 + indirect(state, base, offset, 256),
+    Place {
+        at: 32 + (n as usize),
+        weight: weight(n),
     }
 }
 
-// The place that an operand names, past the state where it names none.
-pub fn place(operand: Operand, state: &[u8]) -> usize
-    ensures { λ r. ⌜ r ≡ place operand (now (state .entry)) ⌝ }
+// The place that the number of an operand other than a literal names.
+fn place_of(code: u16, state: &[u8]) -> Place
+    requires { ⌜ registers ≤ code ⌝ }
+    ensures { λ r. ⌜ r ≡ placeOf (operandOf code) (now (state .entry)) ⌝ }
 {
-    match operand {
-        Operand::Empty => STATE_SIZE,
-        Operand::Literal(_) => STATE_SIZE,
-        Operand::Register(n) => n as usize,
-        Operand::Cell(n) => 32 + (n as usize),
-        Operand::PublicCell { base, offset } => {
-            32 + (indirect(state, base, offset, 128) as usize)
-        }
-        Operand::SensitiveCell { base, offset } => {
-            160 + (indirect(state, base, offset, 128) as usize)
-        }
-        Operand::TableCell { base, offset } => {
-            288 + (indirect(state, base, offset, 256) as usize)
-        }
+    if code < coding::CELLS {
+        return Place {
+            at: (code - coding::REGISTERS) as usize,
+            weight: 0,
+        };
     }
+    if code < coding::PUBLICS {
+        return cell_place(code - coding::CELLS);
+    }
+    if code < coding::SENSITIVES {
+        return cell_place(indirect(state, code - coding::PUBLICS, 128));
+    }
+    if code < coding::TABLES {
+        return cell_place(128 + indirect(state, code - coding::SENSITIVES, 128));
+    }
+    cell_place(256 + indirect(state, code - coding::TABLES, 256))
 }
 
-// What an argument reads, and its address.
+// What an argument reads, and its address's weight.
 struct Fetched {
     value: u8,
-    address: u16,
-}
-
-fn cell(state: &[u8], n: u16) -> Fetched
-    ensures { λ r. ⌜ r ≡ cellOf (now (state .entry)) n ⌝ }
-{
-    Fetched {
-        value: read(state, 32 + (n as usize)),
-        address: n,
-    }
+    weight: u16,
 }
 
 // An argument, as a line of that mark reads it: the mark changes nothing here.
-fn argument(mark: Mark, operand: Operand, state: &[u8]) -> Fetched
-    ensures { λ r. ⌜ r ≡ argumentOf mark operand (now (state .entry)) ⌝ }
+fn argument(mark: Mark, code: u16, state: &[u8]) -> Fetched
+    ensures { λ r. ⌜ r ≡ argumentOf mark (operandOf code) (now (state .entry)) ⌝ }
 {
-    match operand {
-        Operand::Empty => Fetched {
+    if code < coding::LITERALS {
+        return Fetched {
             value: 0,
-            address: 0,
-        },
-        Operand::Literal(n) => Fetched {
-            value: n,
-            address: 0,
-        },
-        Operand::Register(n) => Fetched {
-            value: read(state, n as usize),
-            address: 0,
-        },
-        Operand::Cell(n) => cell(state, n),
-        Operand::PublicCell { base, offset } => cell(state, indirect(state, base, offset, 128)),
-        Operand::SensitiveCell { base, offset } => {
-            cell(state, 128 + indirect(state, base, offset, 128))
-        }
-        Operand::TableCell { base, offset } => {
-            cell(state, 256 + indirect(state, base, offset, 256))
-        }
+            weight: 0,
+        };
+    }
+    if code < coding::REGISTERS {
+        return Fetched {
+            value: (code - coding::LITERALS) as u8,
+            weight: 0,
+        };
+    }
+    let place = place_of(code, state);
+    let at = place.at;
+    Fetched {
+        value: read(state, at),
+        weight: place.weight,
     }
 }
 
-// What a write replaced: the old value, and the destination's address before the write.
-struct Replaced {
-    old: u8,
-    address: u16,
+// Where a line writes.
+fn destination(code: u16, state: &[u8]) -> Place
+    ensures { λ r. ⌜ r ≡ placeOf (operandOf code) (now (state .entry)) ⌝ }
+{
+    if code < coding::REGISTERS {
+        return Place {
+            at: STATE_SIZE,
+            weight: 0,
+        };
+    }
+    place_of(code, state)
 }
 
-fn replace(destination: Operand, result: u8, state: &mut [u8]) -> Replaced
-    ensures { λ r. ⌜ (r .old ≡ getD (now (state .entry)) (place destination (now (state .entry))) 0) × (r .address ≡ address destination (now (state .entry))) ⌝ }
-    ensures { λ r. ⌜ now (state .exit) ≡ set (now (state .entry)) (place destination (now (state .entry))) result ⌝ }
+// What a write replaced: the place as it was named before the write, and the old value there.
+struct Replaced {
+    place: Place,
+    old: u8,
+}
+
+fn replace(code: u16, result: u8, state: &mut [u8]) -> Replaced
+    ensures { λ r. ⌜ (r .place ≡ placeOf (operandOf code) (now (state .entry))) × (r .old ≡ getD (now (state .entry)) (r .place .at) 0) ⌝ }
+    ensures { λ r. ⌜ now (state .exit) ≡ set (now (state .entry)) (r .place .at) result ⌝ }
 {
-    let at = place(destination, state);
+    let place = destination(code, state);
+    let at = place.at;
     let old = read(state, at);
-    let address = address(destination, state);
     write(state, at, result);
-    Replaced { old, address }
+    Replaced { place, old }
 }
 
 // The row of a line: its number, the weight of the written value, its distance from the old one, and the addresses' weights.
@@ -260,9 +258,9 @@ fn row_of(
         line,
         weight(result as u16),
         distance(old, result),
-        weight(first),
-        weight(second),
-        weight(destination),
+        first,
+        second,
+        destination,
     ]
 }
 
@@ -272,28 +270,20 @@ struct Done {
     row: [u16; ROW_WIDTH],
 }
 
-// One line on a state. Arguments and addresses are worked out before the write.
-fn perform(line: Line, counter: u16, state: &mut [u8]) -> Done
+// The line of six numbers on a state. Arguments and addresses are worked out before the write.
+fn perform(m: u16, o: u16, d: u16, a: u16, b: u16, t: u16, counter: u16, state: &mut [u8]) -> Done
     requires { ⌜ counter < 65535 ⌝ }
-    ensures { λ r. ⌜ (r .next ≡ next line counter (now (state .entry))) × (r .row ≡ row line counter (now (state .entry))) ⌝ }
-    ensures { λ r. ⌜ now (state .exit) ≡ after line (now (state .entry)) ⌝ }
+    ensures { λ r. ⌜ (r .next ≡ next (lineOf m o d a b t) counter (now (state .entry))) × (r .row ≡ row (lineOf m o d a b t) counter (now (state .entry))) ⌝ }
+    ensures { λ r. ⌜ now (state .exit) ≡ after (lineOf m o d a b t) (now (state .entry)) ⌝ }
 {
-    let mark = line.mark;
-    let opcode = line.opcode;
-    let target = line.target;
-    let destination = line.destination;
-    let first = line.first;
-    let second = line.second;
-    let a = argument(mark, first, state);
-    let b = argument(mark, second, state);
-    let result = alu(mark, opcode, a.value, b.value);
-    let next = advanced(
-        is_taken(opcode, a.value, b.value),
-        target_line(target),
-        counter,
-    );
-    let r = replace(destination, result, state);
-    let row = row_of(counter, r.old, result, a.address, b.address, r.address);
+    let mark = coding::mark_of(m);
+    let opcode = coding::opcode_of(o);
+    let x = argument(mark, a, state);
+    let y = argument(mark, b, state);
+    let result = alu(mark, opcode, x.value, y.value);
+    let next = advanced(is_taken(opcode, x.value, y.value), target_line(t), counter);
+    let r = replace(d, result, state);
+    let row = row_of(counter, r.old, result, x.weight, y.weight, r.place.weight);
     Done { next, row }
 }
 

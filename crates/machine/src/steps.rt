@@ -18,8 +18,8 @@ impl Run {
     {
         let counter = self.counter;
         let steps = self.steps;
-        let line = coding::line_at(program, counter as usize);
-        let done = super::perform(line, counter, state);
+        let n = coding::numbers_at(program, counter as usize);
+        let done = super::perform(n[0], n[1], n[2], n[3], n[4], n[5], counter, state);
         let row = done.row;
         super::write_row(trace, steps as usize, row);
         Run {

@@ -14,7 +14,7 @@ ghost use Rattle.text.specs.Writing.{Wrote, isRefusal};
 mod cut;
 mod fields;
 mod line;
-mod printing;
+pub mod printing;
 mod size;
 
 use crate::cut::beyond;

@@ -13,7 +13,7 @@ use coding::SENSITIVES;
 use coding::TABLES;
 
 // A byte, where there is room.
-fn put(out: &mut [u8], at: usize, b: u8) -> usize
+pub fn put(out: &mut [u8], at: usize, b: u8) -> usize
     requires { ⌜ at + 1 ≤ printable ⌝ }
     ensures { λ r. ⌜ Wrote (now (out .entry)) (now (out .exit)) at r (b ∷ []) 1 ⌝ }
 {
@@ -36,7 +36,7 @@ fn put_digit(out: &mut [u8], at: usize, n: u16, p: u16) -> usize
 }
 
 // A number in decimal.
-fn put_number(out: &mut [u8], at: usize, n: u16) -> usize
+pub fn put_number(out: &mut [u8], at: usize, n: u16) -> usize
     requires { ⌜ at + 5 ≤ printable ⌝ }
     ensures { λ r. ⌜ Wrote (now (out .entry)) (now (out .exit)) at r (decimal n) 5 ⌝ }
 {
@@ -48,7 +48,7 @@ fn put_number(out: &mut [u8], at: usize, n: u16) -> usize
 }
 
 // A byte and a number.
-fn put_tagged(out: &mut [u8], at: usize, c: u8, n: u16) -> usize
+pub fn put_tagged(out: &mut [u8], at: usize, c: u8, n: u16) -> usize
     requires { ⌜ at + 6 ≤ printable ⌝ }
     ensures { λ r. ⌜ Wrote (now (out .entry)) (now (out .exit)) at r (c ∷ decimal n) 6 ⌝ }
 {

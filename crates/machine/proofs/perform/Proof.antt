@@ -5,23 +5,40 @@ use mathlib.Core.List.{List}
 use Prim.Native.Nat.{ℕ, suc}
 use lib.ListN.{getD, set}
 use borrow.Author.Needs.{needs}
+use Rattle.model.specs.declared.Mark.{Mark}
+use Rattle.model.specs.declared.Opcode.{Opcode}
 use Rattle.model.specs.declared.Line.{Line}
 use Rattle.model.specs.Places.{State, place, address}
-use Rattle.model.specs.Step.{argument, alu, taken, targetLine, result, next, after, row}
+use Rattle.model.specs.Stored.{lineOf}
+use Rattle.model.specs.Step.{weight, argument, alu, taken, targetLine, result, next, after, row}
 use Rattle.machine.specs.declared.Fetched.{Fetched}
-use Rattle.machine.specs.Loop.{rowOf}
+use Rattle.machine.specs.declared.Place.{Place}
+use Rattle.machine.specs.Loop.{placeOf, argumentOf, rowOf}
 use Rattle.machine.proofs.perform.Statement.{statement}
 use Rattle.machine.proofs.perform.Tie as tie
 
 -- what a step answers and leaves, over plain values
-performed : (l : Line) (k : ℕ) (s s′ : State) (j : Bool) (x y a b g n r o d : ℕ) (t : List ℕ)
-    → x ≡ argument (l .mark) (l .first) s → a ≡ address (l .first) s → y ≡ argument (l .mark) (l .second) s → b ≡ address (l .second) s
-    → r ≡ alu (l .mark) (l .opcode) x y → j ≡ taken (l .opcode) x y → g ≡ targetLine (l .target) → n ≡ cond j g (suc k)
-    → o ≡ getD s (place (l .destination) s) 0 → d ≡ address (l .destination) s → s′ ≡ set s (place (l .destination) s) r
-    → t ≡ rowOf k o r a b d
+performed : (l : Line) (k : ℕ) (s s′ : State) (m : Mark) (p : Opcode) (j : Bool) (x y : Fetched) (q : Place) (g n r o : ℕ) (t : List ℕ)
+    → m ≡ l .mark → p ≡ l .opcode → x ≡ argumentOf m (l .first) s → y ≡ argumentOf m (l .second) s
+    → r ≡ alu m p (x .value) (y .value) → j ≡ taken p (x .value) (y .value) → g ≡ targetLine (l .target) → n ≡ cond j g (suc k)
+    → q ≡ placeOf (l .destination) s → o ≡ getD s (q .at) 0 → s′ ≡ set s (q .at) r
+    → t ≡ rowOf k o r (x .weight) (y .weight) (q .weight)
     → ((n ≡ next l k s) × (t ≡ row l k s)) × (s′ ≡ after l s)
 unfolding next row after result
-performed l k s s′ j x y a b g n r o d t ex ea ey eb er ej eg en eo ed es et = ((cc, cc), cc)
+performed l k s s′ m p j x y q g n r o t em ep ex ey er ej eg en eq eo es et =
+    let a : x .value ≡ argument m (l .first) s = ap (λ (z : Fetched). z .value) ex in
+    let b : y .value ≡ argument m (l .second) s = ap (λ (z : Fetched). z .value) ey in
+    let v : x .weight ≡ weight (address (l .first) s) = ap (λ (z : Fetched). z .weight) ex in
+    let w : y .weight ≡ weight (address (l .second) s) = ap (λ (z : Fetched). z .weight) ey in
+    let e : q .at ≡ place (l .destination) s = ap (λ (z : Place). z .at) eq in
+    let f : q .weight ≡ weight (address (l .destination) s) = ap (λ (z : Place). z .weight) eq in
+    ((cc, cc), cc)
+
+mark-of-requires : tie.Need-mark-of-requires
+mark-of-requires c κs = search needs
+
+opcode-of-requires : tie.Need-opcode-of-requires
+opcode-of-requires c κs = search needs
 
 argument-requires : tie.Need-argument-requires
 argument-requires c κs = search needs
@@ -52,12 +69,10 @@ same-length c = search needs
 
 returns : tie.Need-returns
 returns c =
-    let x = c .before .before .before .before .before .before .before .before .before .before .before .before .before .before .args in
-    let a = c .before .before .before .before .before .before .before .before .before .before .before .argument in
-    let b = c .before .before .before .before .before .before .before .before .before .argument2 in
+    let x = c .before .before .before .before .before .before .before .before .before .before .before .before .before .before .before .before .args in
     let w = c .before .before .before .replace in
-    performed (x .line) (x .counter) (x .state .now) _ (c .before .before .before .before .before .before .before .is-taken .result) _ _ _ _ _ _ _ _ _ (c .row-of .result)
-    (ap (λ (z : Fetched). z .value) (a .ensures)) (ap (λ (z : Fetched). z .address) (a .ensures)) (ap (λ (z : Fetched). z .value) (b .ensures)) (ap (λ (z : Fetched). z .address) (b .ensures))
+    performed (lineOf (x .m) (x .o) (x .d) (x .a) (x .b) (x .t)) (x .counter) (x .state .now) _ (c .before .before .before .before .before .before .before .before .before .before .before .before .before .before .mark-of .result) (c .before .before .before .before .before .before .before .before .before .before .before .before .before .opcode-of .result) (c .before .before .before .before .before .before .before .is-taken .result) (c .before .before .before .before .before .before .before .before .before .before .before .argument .result) (c .before .before .before .before .before .before .before .before .before .argument2 .result) (w .result .place) _ _ _ _ (c .row-of .result)
+    (c .before .before .before .before .before .before .before .before .before .before .before .before .before .before .mark-of .ensures) (c .before .before .before .before .before .before .before .before .before .before .before .before .before .opcode-of .ensures) (c .before .before .before .before .before .before .before .before .before .before .before .argument .ensures) (c .before .before .before .before .before .before .before .before .before .argument2 .ensures)
     (c .before .before .before .before .before .before .before .before .alu .ensures) (c .before .before .before .before .before .before .before .is-taken .ensures) (c .before .before .before .before .before .before .target-line .ensures) (c .before .before .before .before .before .advanced .ensures)
     (w .ensures .0 .0) (w .ensures .0 .1) (w .ensures .1) (c .row-of .ensures)
 
@@ -65,6 +80,8 @@ pub perform-spec : {M : Type 1} → statement M
 perform-spec =
     tie.close
     (tie.spec
+    mark-of-requires
+    opcode-of-requires
     argument-requires
     argument-requires-2
     alu-requires

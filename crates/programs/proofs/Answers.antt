@@ -1,0 +1,91 @@
+-- What reads, checks or expands answers a count or a refusal, and never as a run does. Assumes nothing.
+use Prim.Native.Nat.{ℕ, zero, suc, _+_}
+use mathlib.Core.Path.{_≡_, refl, sym, ap, _∙_}
+use mathlib.Core.Bool.{Bool, true, false, cond}
+use mathlib.Core.List.{List, [], _∷_}
+use mathlib.Core.Logic.{inl, inr}
+use native.Mathlib.Omega.{arith}
+use denote.Enum.Declared.{tagOf}
+use types.Run.{OneOf}
+use lib.Dec.{eqb, leb, ltb}
+use lib.ListN.{length}
+use Rattle.model.proofs.Answer.{the-type}
+use Rattle.model.specs.declared.Answer.{Answer}
+use Rattle.model.specs.declared.Answer.the-variants.{Count, Halted, Spent, Refused}
+use Rattle.model.specs.declared.Line.{Line}
+use Rattle.model.specs.Limits.{maxAccepted}
+use Rattle.model.specs.Answers.{Report, done, refused, counted, report, andThen}
+use Rattle.model.specs.Stored.{Parsed, numbers, wrong, lines, programCheck}
+use Rattle.model.specs.Text.{newline, past, frontLine, Reading, ends, thenReads, reading}
+use Rattle.model.specs.Marks.{markFault, firstBad, marksOf, markCheck}
+use Rattle.model.proofs.RoundTrip.{reading-zero, reading-suc}
+
+pub data CountOrRefusal (r : Report) : Type 0 where
+  counts : (n : ℕ) → r ≡ counted n → CountOrRefusal r
+  refuses : (k l : ℕ) → r ≡ refused k l → CountOrRefusal r
+
+either : (t : Bool) (x y : Report) → CountOrRefusal x → CountOrRefusal y → CountOrRefusal (cond t x y)
+either true x y a b = a
+either false x y a b = b
+
+pub then-answers : (x y : Report) → CountOrRefusal y → CountOrRefusal (andThen x y)
+then-answers (done vs) y b = b
+then-answers (refused k l) y b = refuses k l refl
+
+-- ---- reading
+
+either-reading : (t : Bool) (x y : Reading) → CountOrRefusal (x .answer) → CountOrRefusal (y .answer) → CountOrRefusal (cond t x y .answer)
+either-reading true x y a b = a
+either-reading false x y a b = b
+
+then-reading : (x : Parsed) (n : ℕ) (next : Reading) → CountOrRefusal (next .answer) → CountOrRefusal (thenReads x n next .answer)
+then-reading (numbers line) n next a = a
+then-reading (wrong k) n next a = refuses k n refl
+
+pub reading-answers : (more n room : ℕ) (text : List ℕ) → CountOrRefusal (reading more n room text .answer)
+reading-answers zero n room text = rw (reading-zero n room text) (either-reading (eqb (length text) 0) _ _ (counts n refl) (refuses 7 n refl))
+reading-answers (suc more) n room text =
+    rw (reading-suc more n room text)
+    (either-reading (eqb (length text) 0) _ _ (counts n refl)
+    (either-reading (leb room n) _ _ (refuses 8 n refl) (then-reading (frontLine text) n _ (reading-answers more (n + 1) room (past newline text)))))
+
+-- ---- the mark check
+
+first-answers : (n i : ℕ) (ls : List Line) → CountOrRefusal (firstBad n i ls)
+unfolding firstBad
+first-answers n i [] = counts n refl
+first-answers n i (l ∷ ls) = either (eqb (markFault n l) 0) _ _ (first-answers n (i + 1) ls) (refuses (markFault n l) i refl)
+
+marks-answer : (p : List Line) → CountOrRefusal (marksOf p)
+unfolding marksOf
+marks-answer p = either (ltb maxAccepted (length p)) _ _ (refuses 9 0 refl) (first-answers (length p) 0 p)
+
+pub check-answers : (p : List ℕ) → CountOrRefusal (markCheck p)
+unfolding markCheck
+check-answers p = then-answers (programCheck p) (marksOf (lines p)) (marks-answer (lines p))
+
+-- ---- an answer of the code
+
+-- not the first of its variants
+abbrev pub NoCount : Answer → Type 0
+NoCount a = OneOf (1 ∷ 2 ∷ 3 ∷ []) (tagOf the-type a)
+
+pub record Refusal (r : Report) : Type 0 where
+  pub number : ℕ
+  pub line : ℕ
+  pub is : r ≡ refused number line
+
+never-counts : (n : ℕ) → NoCount (Count n) → ⊥
+never-counts n (inl e) = omega arith
+never-counts n (inr (inl e)) = omega arith
+never-counts n (inr (inr e)) = omega arith
+
+no-ending : {r : Report} (k i s : ℕ) → CountOrRefusal r → done (k ∷ i ∷ s ∷ []) ≡ r → ⊥
+no-ending k i s (counts n e) q = let z : done (k ∷ i ∷ s ∷ []) ≡ done (n ∷ []) = q ∙ e in let w : _≡_ {A = ℕ} 0 1 = cc in omega arith
+no-ending k i s (refuses m l e) q = let z : done (k ∷ i ∷ s ∷ []) ≡ refused m l = q ∙ e in let w : _≡_ {A = ℕ} 0 1 = cc in omega arith
+
+pub no-count-refuses : {r : Report} (a : Answer) → NoCount a → CountOrRefusal r → report a ≡ r → Refusal r
+no-count-refuses (Count n) h c e = absurd (never-counts n h)
+no-count-refuses (Halted i s) h c e = absurd (no-ending 0 i s c e)
+no-count-refuses (Spent i s) h c e = absurd (no-ending 1 i s c e)
+no-count-refuses (Refused k l) h c e = record { number = k; line = l; is = sym e }

@@ -1,0 +1,223 @@
+-- The text of a run: its rows stand in the trace store, six numbers each, and its ending is the answer's. Assumes nothing.
+use Prim.Native.Nat.{ℕ, zero, suc, _+_, _*_, _/_, _≤_}
+use mathlib.Core.Path.{_≡_, refl, sym, ap, ap₂, _∙_}
+use mathlib.Core.Bool.{Bool, true, false, cond, _&&_}
+use mathlib.Core.List.{List, [], _∷_, _++_, flatMap}
+use mathlib.Core.Option.{Option, none, some}
+use native.Mathlib.Omega.{arith}
+use borrow.Author.Tests.{eq-eqb, le-ltb}
+use lib.Dec.{eqb, leb, ltb}
+use lib.ListN.{length, take, drop, replicate, getElem?, length-append, length-replicate}
+use lib.Seq.{take-at, drop-at}
+use Rattle.model.specs.declared.Answer.{Answer}
+use Rattle.model.specs.declared.Line.{Line}
+use Rattle.model.specs.Limits.{lineWidth, stateSize, rowWidth}
+use Rattle.model.specs.Answers.{Report, done, report, counted, refused, halted, spent, Outcome, outcome, atFront}
+use Rattle.model.specs.Places.{Kind, Neither, Public, Sensitive, State, kind}
+use Rattle.model.specs.Step.{Row, row, next, after}
+use Rattle.model.specs.Stored.{lineCount, lines, programCheck}
+use Rattle.model.specs.Run.{Ran, run, answer, runLeaves, runOutcome}
+use Rattle.model.specs.Images.{byKind, imageAt, image, every, bitRight, carried, toImageOutcome}
+use Rattle.model.specs.Expansion.{expand}
+use Rattle.model.specs.Programs.{traceBudget, orRefusal, printed, numbersText, endingText, traceText, tracePrints}
+use Rattle.model.proofs.OutcomeLaws.{first-store, second-store}
+use Rattle.model.proofs.PlaceLaws.{mapAt-length}
+use Rattle.model.proofs.Runs.{run-zero, stopped, step-run}
+use Rattle.programs.specs.Printing.{fitted, rowsFrom, rowsText, linesText}
+use Rattle.programs.specs.Loading.{readInput, loadOutcome}
+use Rattle.programs.specs.Running.{runText, endedText}
+use Rattle.programs.proofs.Answers.{NoCount}
+use Rattle.programs.proofs.LoadLaws.{Loaded, part-lines, refusal-printed}
+
+-- ---- rows of six numbers
+
+abbrev pub Sixes : List Row → Type 0
+Sixes [] = Unit {0}
+Sixes (r ∷ rs) = (length r ≡ rowWidth) × Sixes rs
+
+abbrev flat : List Row → List ℕ
+flat = flatMap (λ (r : Row). r)
+
+row-six : (l : Line) (k : ℕ) (s : State) → length (row l k s) ≡ rowWidth
+unfolding row
+row-six l k s = refl
+
+pub run-sixes : (p : List Line) (n k : ℕ) (s : State) → Sixes (run p n k s .rows)
+run-sixes p zero k s = rw (run-zero p k s) tt
+run-sixes p (suc n) k s = by (λ k s. run-sixes p n k s) (getElem? p k) refl
+  where
+    by : ((k : ℕ) (s : State) → Sixes (run p n k s .rows)) → (o : Option Line) → getElem? p k ≡ o → Sixes (run p (suc n) k s .rows)
+    by ih none e = rw (stopped p k s e (suc n)) tt
+    by ih (some l) e = rw (step-run p k s l e n) (row-six l k s, ih (next l k s) (after l s))
+
+flat-length : (rs : List Row) → Sixes rs → length (flat rs) ≡ rowWidth * length rs
+unfolding flatMap
+flat-length [] h = refl
+flat-length (r ∷ rs) h = omega (arith, length-append r (flat rs), flat-length rs (h .1), h .0)
+
+flat-rows : (rs : List Row) → Sixes rs → rowsFrom (length rs) (flat rs) ≡ rs
+unfolding flatMap rowsFrom
+flat-rows [] h = refl
+flat-rows (r ∷ rs) h = rw (take-at r (flat rs) rowWidth (h .0), drop-at r (flat rs) rowWidth (h .0), flat-rows rs (h .1))
+
+flat-text : (rs : List Row) → Sixes rs → rowsText (length (flat rs) / rowWidth) (flat rs) ≡ flatMap numbersText rs
+unfolding rowsText
+flat-text rs h =
+    let e : length (flat rs) / rowWidth ≡ length rs = omega (arith, flat-length rs h) in
+    rw e (ap (flatMap numbersText) (flat-rows rs h))
+
+-- ---- the ending
+
+-- k steps were done, and the last line is a word and their number
+pub record Ending (p : List Line) (x : Ran) (word : List ℕ) (k : ℕ) : Type 0 where
+  pub steps : k ≡ length (x .rows)
+  pub line : endingText p x ≡ word ++ numbersText (k ∷ [])
+
+-- `halted,` and `spent,`
+abbrev pub haltedWord : List ℕ
+haltedWord = 104 ∷ 97 ∷ 108 ∷ 116 ∷ 101 ∷ 100 ∷ 44 ∷ []
+
+abbrev pub spentWord : List ℕ
+spentWord = 115 ∷ 112 ∷ 101 ∷ 110 ∷ 116 ∷ 44 ∷ []
+
+answer-is : (p : List Line) (x : Ran) → answer p x ≡ cond (ltb (x .at) (length p)) (spent (x .at) (length (x .rows))) (halted (x .at) (length (x .rows)))
+unfolding answer
+answer-is p x = refl
+
+pub ending-is : (p : List Line) (x : Ran) → endingText p x ≡ cond (ltb (x .at) (length p)) (spentWord ++ numbersText (length (x .rows) ∷ [])) (haltedWord ++ numbersText (length (x .rows) ∷ []))
+unfolding endingText
+ending-is p x = refl
+
+module _ (p : List Line) (x : Ran) (c k : ℕ) where
+  pub halted-ending : halted c k ≡ answer p x → Ending p x haltedWord k
+  halted-ending e = by (ltb (x .at) (length p)) (e ∙ answer-is p x) (ending-is p x)
+    where
+      by : (t : Bool) → halted c k ≡ cond t (spent (x .at) (length (x .rows))) (halted (x .at) (length (x .rows)))
+          → endingText p x ≡ cond t (spentWord ++ numbersText (length (x .rows) ∷ [])) (haltedWord ++ numbersText (length (x .rows) ∷ [])) → Ending p x haltedWord k
+      by true q l = let z : _≡_ {A = ℕ} 0 1 = cc q in absurd (omega arith)
+      by false q l = let s : k ≡ length (x .rows) = cc q in record { steps = s; line = l ∙ ap (λ (n : ℕ). haltedWord ++ numbersText (n ∷ [])) (sym s) }
+
+  pub spent-ending : spent c k ≡ answer p x → Ending p x spentWord k
+  spent-ending e = by (ltb (x .at) (length p)) (e ∙ answer-is p x) (ending-is p x)
+    where
+      by : (t : Bool) → spent c k ≡ cond t (spent (x .at) (length (x .rows))) (halted (x .at) (length (x .rows)))
+          → endingText p x ≡ cond t (spentWord ++ numbersText (length (x .rows) ∷ [])) (haltedWord ++ numbersText (length (x .rows) ∷ [])) → Ending p x spentWord k
+      by false q l = let z : _≡_ {A = ℕ} 0 1 = cc q in absurd (omega arith)
+      by true q l = let s : k ≡ length (x .rows) = cc q in record { steps = s; line = l ∙ ap (λ (n : ℕ). spentWord ++ numbersText (n ∷ [])) (sym s) }
+
+no-other : (p : List Line) (x : Ran) (r : Report) → r ≡ answer p x → ((n : ℕ) → r ≡ counted n → ⊥) × ((k l : ℕ) → r ≡ refused k l → ⊥)
+no-other p x r e = by (ltb (x .at) (length p)) (e ∙ answer-is p x)
+  where
+    by : (t : Bool) → r ≡ cond t (spent (x .at) (length (x .rows))) (halted (x .at) (length (x .rows))) → ((n : ℕ) → r ≡ counted n → ⊥) × ((k l : ℕ) → r ≡ refused k l → ⊥)
+    by true q = (λ n z. let w : _≡_ {A = ℕ} 0 1 = cc (q, z) in omega arith, λ k l z. let w : _≡_ {A = ℕ} 0 1 = cc (q, z) in omega arith)
+    by false q = (λ n z. let w : _≡_ {A = ℕ} 0 1 = cc (q, z) in omega arith, λ k l z. let w : _≡_ {A = ℕ} 0 1 = cc (q, z) in omega arith)
+
+-- ---- the image of the all-zero state
+
+zero-bit : (k : Kind) → byKind k (eqb 0 0) true (leb 0 1) ≡ true
+zero-bit Neither = refl
+zero-bit Public = refl
+zero-bit Sensitive = refl
+
+zero-bits : (n i : ℕ) → every bitRight i (replicate n 0) ≡ true
+unfolding every bitRight
+zero-bits zero i = refl
+zero-bits (suc n) i = rw (zero-bit (kind i)) (zero-bits n (suc i))
+
+image-length : (s : State) → length (image s) ≡ length s
+unfolding image
+image-length s = mapAt-length imageAt 0 s
+
+carried-over : (right : ℕ → ℕ → Bool) (over : State → State) (from into : State) → length from ≡ stateSize → length into ≡ stateSize → every right 0 from ≡ true
+    → carried right over from into ≡ outcome (counted stateSize) (over from ∷ [])
+unfolding carried
+carried-over right over from into h g e = rw (eq-eqb (length from) stateSize h, eq-eqb (length into) stateSize g, e)
+
+abbrev pub zeros : State
+zeros = replicate stateSize 0
+
+pub zero-image : (new : State) (r : Report) → outcome r (new ∷ []) ≡ toImageOutcome zeros zeros → new ≡ image zeros
+zero-image new r e =
+    let h : length zeros ≡ stateSize = length-replicate {A = ℕ} stateSize 0 in
+    ap first-store (e ∙ carried-over bitRight image zeros zeros h h (zero-bits stateSize 0))
+
+-- ---- a run that is not refused
+
+run-outcome : (p : List ℕ) (k b n : ℕ) (s t : List ℕ) → programCheck p ≡ counted n → length s ≡ stateSize → rowWidth * b ≤ length t
+    → runOutcome p k b s t ≡ runLeaves (lines p) (run (lines p) b k s) t
+unfolding runOutcome
+run-outcome p k b n s t e h g = rw (e, eq-eqb (length s) stateSize h, le-ltb (length t) (rowWidth * b) g)
+
+run-leaves : (p : List Line) (x : Ran) (t : List ℕ) → runLeaves p x t ≡ outcome (answer p x) (x .state ∷ atFront (flat (x .rows)) t ∷ [])
+unfolding runLeaves
+run-leaves p x t = refl
+
+pub trace-text : (p : List Line) (x : Ran) → traceText p x ≡ flatMap numbersText (x .rows) ++ endingText p x
+unfolding traceText
+trace-text p x = refl
+
+lines-text : (rows word last : List ℕ) → linesText rows word last ≡ rowsText (length rows / rowWidth) rows ++ (word ++ numbersText last)
+unfolding linesText
+lines-text rows word last = refl
+
+ended-text : (trace word : List ℕ) (k : ℕ) → endedText trace word k ≡ linesText (take (rowWidth * k) trace) word (k ∷ [])
+unfolding endedText
+ended-text trace word k = refl
+
+-- the text of the lines' run
+abbrev pub lineRun : List Line → List ℕ
+lineRun p = traceText p (run p traceBudget 0 (image zeros))
+
+run-text : (p : List ℕ) → runText p ≡ lineRun (lines p)
+unfolding runText
+run-text p = refl
+
+module _ (p state state′ t new : List ℕ) (a : Answer) (r : Report) (ok : programCheck p ≡ counted (lineCount p)) (made : outcome r (state ∷ []) ≡ toImageOutcome zeros zeros) (room : length t ≡ rowWidth * traceBudget) (e : outcome (report a) (state′ ∷ new ∷ []) ≡ runOutcome p 0 traceBudget state t) where
+  abbrev ran : Ran
+  ran = run (lines p) traceBudget 0 (image zeros)
+
+  leaves : outcome (report a) (state′ ∷ new ∷ []) ≡ outcome (answer (lines p) ran) (ran .state ∷ atFront (flat (ran .rows)) t ∷ [])
+  leaves =
+      let s : state ≡ image zeros = zero-image state r made in
+      let h : length (image zeros) ≡ stateSize = image-length zeros ∙ length-replicate {A = ℕ} stateSize 0 in
+      e ∙ ap (λ (v : State). runOutcome p 0 traceBudget v t) s ∙ run-outcome p 0 traceBudget (lineCount p) (image zeros) t ok h (omega arith) ∙ run-leaves (lines p) ran t
+
+  pub answered : report a ≡ answer (lines p) ran
+  answered = ap (λ (o : Outcome). o .answer) leaves
+
+  trace-is : new ≡ atFront (flat (ran .rows)) t
+  trace-is = ap second-store leaves
+
+  module _ (word : List ℕ) (k : ℕ) (d : Ending (lines p) ran word k) where
+    numbers : length (flat (ran .rows)) ≡ rowWidth * k
+    numbers = flat-length (ran .rows) (run-sixes (lines p) traceBudget 0 (image zeros)) ∙ ap (λ (n : ℕ). rowWidth * n) (sym (d .steps))
+
+    pub steps-fit : rowWidth * k ≤ length new
+    steps-fit = omega (arith, ap length trace-is, numbers, length-append (flat (ran .rows)) (drop (length (flat (ran .rows))) t))
+
+    pub ended-is : endedText new word k ≡ runText p
+    ended-is =
+        let f : take (rowWidth * k) new ≡ flat (ran .rows) = ap (take (rowWidth * k)) trace-is ∙ take-at (flat (ran .rows)) (drop (length (flat (ran .rows))) t) (rowWidth * k) numbers in
+        ended-text new word k ∙ ap (λ (l : List ℕ). linesText l word (k ∷ [])) f ∙ lines-text (flat (ran .rows)) word (k ∷ [])
+        ∙ ap₂ (λ (x y : List ℕ). x ++ y) (flat-text (ran .rows) (run-sixes (lines p) traceBudget 0 (image zeros))) (sym (d .line))
+        ∙ sym (trace-text (lines p) ran) ∙ sym (run-text p)
+
+  pub never-counts : (n : ℕ) → report a ≡ counted n → ⊥
+  never-counts n q = no-other (lines p) ran (report a) answered .0 n q
+
+  pub never-refuses : (k l : ℕ) → report a ≡ refused k l → ⊥
+  never-refuses k l q = no-other (lines p) ran (report a) answered .1 k l q
+
+-- ---- what the second program prints
+
+pub trace-prints : (input : List ℕ) → tracePrints input ≡ printed (λ p. lineRun (expand p)) input
+unfolding tracePrints
+trace-prints input = refl
+
+pub loaded-run : (input new : List ℕ) (n : ℕ) → Loaded input new n → runText (take (lineWidth * n) new) ≡ tracePrints input
+loaded-run input new n l =
+    run-text (take (lineWidth * n) new) ∙ ap lineRun (part-lines input new n l) ∙ sym (l .prints (λ p. lineRun (expand p))) ∙ sym (trace-prints input)
+
+pub refusal-of-trace : (input store new out : List ℕ) (a : Answer) → outcome (report a) (new ∷ []) ≡ loadOutcome input store → NoCount a → fitted (orRefusal (report a) []) out ≡ fitted (tracePrints input) out
+refusal-of-trace input store new out a e h =
+    ap (λ (t : List ℕ). fitted t out) (refusal-printed input store new a e h (λ p. lineRun (expand p)) ∙ sym (trace-prints input))

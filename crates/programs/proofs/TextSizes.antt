@@ -1,0 +1,128 @@
+-- How long the two programs' texts are at most, so that a store of that length is never refused with 17. Assumes nothing.
+use Prim.Native.Nat.{ℕ, zero, suc, _+_, _*_, _≤_}
+use mathlib.Core.Path.{_≡_, refl, sym, ap, _∙_}
+use mathlib.Core.Bool.{Bool, true, false, cond}
+use mathlib.Core.List.{List, [], _∷_, _++_, flatMap}
+use mathlib.Core.Option.{Option, none, some}
+use native.Mathlib.Omega.{arith}
+use lib.Dec.{ltb}
+use lib.ListN.{length, getElem?, length-append}
+use Rattle.model.specs.declared.Line.{Line}
+use Rattle.model.specs.Limits.{longest, maxAccepted, rowWidth}
+use Rattle.model.specs.Answers.{Report, done, refused, counted, outcome, atFront}
+use Rattle.model.specs.Places.{State}
+use Rattle.model.specs.Lines.{AllCorrect}
+use Rattle.model.specs.Stored.{lines}
+use Rattle.model.specs.Text.{newline, decimal, spellLine}
+use Rattle.model.specs.Step.{Row, next, after}
+use Rattle.model.specs.Run.{Ran, run}
+use Rattle.model.specs.Marks.{markCheck, Accepted}
+use Rattle.model.specs.Expansion.{expand}
+use Rattle.model.specs.Programs.{inputSize, traceBudget, orRefusal, printed, numbersText, refusalText, endingText, traceText, expandPrints, tracePrints}
+use Rattle.model.proofs.DecimalLaws.{decimal-5}
+use Rattle.model.proofs.SpellingLaws.{line-34}
+use Rattle.model.proofs.ExpansionLaws.{expansion-most, expansion-correct}
+use Rattle.model.proofs.Runs.{run-zero, stopped, step-run}
+use Rattle.programs.specs.Printing.{fitted}
+use Rattle.programs.specs.Loading.{readInput}
+use Rattle.programs.proofs.Answers.{check-answers}
+use Rattle.programs.proofs.LeftLaws.{all-fits}
+use Rattle.programs.proofs.LineTexts.{listed, cons-text}
+use Rattle.programs.proofs.LoadLaws.{printed-is, accepted-if, expand-prints}
+use Rattle.programs.proofs.RunLaws.{Sixes, run-sixes, ending-is, spentWord, haltedWord, trace-text, lineRun, trace-prints}
+
+-- ---- lines of numbers
+
+listed-most : (ns : List ℕ) → length (listed ns) ≤ 6 * length ns
+unfolding listed
+listed-most [] = omega arith
+listed-most (n ∷ ns) = omega (arith, length-append (decimal n) (listed ns), decimal-5 n, listed-most ns)
+
+numbers-most : (n : ℕ) (ns : List ℕ) → length (numbersText (n ∷ ns)) ≤ 6 * length (n ∷ ns)
+numbers-most n ns =
+    omega (arith, ap length (cons-text n ns), length-append (decimal n) (listed ns ++ (newline ∷ [])), length-append (listed ns) (newline ∷ []), decimal-5 n, listed-most ns)
+
+refusal-most : (number line : ℕ) → length (refusalText number line) ≤ 20
+unfolding refusalText
+refusal-most number line = omega (arith, numbers-most number (line ∷ []))
+
+-- ---- what is printed
+
+module _ (text : List Line → List ℕ) (most : ℕ) (enough : 20 ≤ most) (bound : (p : List Line) → Accepted p → length (text p) ≤ most) (input : List ℕ) where
+  refusal-within : (k l : ℕ) → length (orRefusal (refused k l) []) ≤ most
+  refusal-within k l = omega (arith, refusal-most k l)
+
+  printed-most : length (printed text input) ≤ most
+  printed-most = rw (printed-is text input) (by (ltb inputSize (length input)) (readInput input .answer) (markCheck (readInput input .stored)) refl)
+    where
+      by : (long : Bool) (r m : Report) → markCheck (readInput input .stored) ≡ m
+          → length (cond long (orRefusal (refused 8 0) []) (orRefusal r (orRefusal m (text (lines (readInput input .stored)))))) ≤ most
+      by true r m e = refusal-within 8 0
+      by false (refused k l) m e = refusal-within k l
+      by false (done vs) (refused k l) e = refusal-within k l
+      by false (done vs) (done ms) e = bound (lines (readInput input .stored)) (accepted-if (readInput input .stored) ms e (check-answers (readInput input .stored)))
+
+-- ---- the expansion
+
+spelled-most : (ls : List Line) → AllCorrect ls → length (flatMap spellLine ls) ≤ 34 * length ls
+unfolding flatMap
+spelled-most [] h = omega arith
+spelled-most (l ∷ ls) h = omega (arith, length-append (spellLine l) (flatMap spellLine ls), line-34 l (h .0), spelled-most ls (h .1))
+
+-- 13 lines for each of 1,024, of 34 bytes each
+pub expansion-most-bytes : (input : List ℕ) → length (expandPrints input) ≤ 452608
+expansion-most-bytes input =
+    rw (expand-prints input)
+    (printed-most (λ p. flatMap spellLine (expand p)) 452608 (omega arith)
+    (λ p A. omega (arith, spelled-most (expand p) (expansion-correct p A), expansion-most p A)) input)
+
+-- ---- the trace
+
+rows-few : (p : List Line) (n k : ℕ) (s : State) → length (run p n k s .rows) ≤ n
+rows-few p zero k s = rw (run-zero p k s) (omega arith)
+rows-few p (suc n) k s = by (λ k s. rows-few p n k s) (getElem? p k) refl
+  where
+    by : ((k : ℕ) (s : State) → length (run p n k s .rows) ≤ n) → (o : Option Line) → getElem? p k ≡ o → length (run p (suc n) k s .rows) ≤ suc n
+    by ih none e = rw (stopped p k s e (suc n)) (omega arith)
+    by ih (some l) e = rw (step-run p k s l e n) (omega (arith, ih (next l k s) (after l s)))
+
+row-most : (r : Row) → length r ≡ rowWidth → length (numbersText r) ≤ 36
+row-most [] h = absurd (omega arith)
+row-most (n ∷ ns) h = omega (arith, numbers-most n ns)
+
+rows-most : (rs : List Row) → Sixes rs → length (flatMap numbersText rs) ≤ 36 * length rs
+unfolding flatMap
+rows-most [] h = omega arith
+rows-most (r ∷ rs) h = omega (arith, length-append (numbersText r) (flatMap numbersText rs), row-most r (h .0), rows-most rs (h .1))
+
+ending-most : (p : List Line) (x : Ran) → length (endingText p x) ≤ 13
+ending-most p x = rw (ending-is p x) (by (ltb (x .at) (length p)))
+  where
+    by : (t : Bool) → length (cond t (spentWord ++ numbersText (length (x .rows) ∷ [])) (haltedWord ++ numbersText (length (x .rows) ∷ []))) ≤ 13
+    by true = omega (arith, numbers-most (length (x .rows)) [])
+    by false = omega (arith, numbers-most (length (x .rows)) [])
+
+trace-most : (p : List Line) (n k : ℕ) (s : State) → length (traceText p (run p n k s)) ≤ 36 * n + 13
+trace-most p n k s =
+    let x : Ran = run p n k s in
+    omega (
+      arith,
+      ap length (trace-text p x),
+      length-append (flatMap numbersText (x .rows)) (endingText p x),
+      rows-most (x .rows) (run-sixes p n k s),
+      rows-few p n k s,
+      ending-most p x,
+    )
+
+-- 1,000 rows of six numbers, of at most five digits each, and the last line
+pub trace-most-bytes : (input : List ℕ) → length (tracePrints input) ≤ 36013
+trace-most-bytes input =
+    rw (trace-prints input) (printed-most (λ p. lineRun (expand p)) 36013 (omega arith) (λ p A. trace-most (expand p) traceBudget 0 _) input)
+
+-- ---- so the programs' stores always have room
+
+pub expansion-prints-all : (input out : List ℕ) → 452608 ≤ length out → fitted (expandPrints input) out ≡ outcome (counted (length (expandPrints input))) (atFront (expandPrints input) out ∷ [])
+expansion-prints-all input out h = sym (all-fits (expandPrints input) out (omega (arith, expansion-most-bytes input)))
+
+pub trace-prints-all : (input out : List ℕ) → 36013 ≤ length out → fitted (tracePrints input) out ≡ outcome (counted (length (tracePrints input))) (atFront (tracePrints input) out ∷ [])
+trace-prints-all input out h = sym (all-fits (tracePrints input) out (omega (arith, trace-most-bytes input)))

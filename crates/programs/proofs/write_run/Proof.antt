@@ -1,0 +1,109 @@
+-- `programs::write_run` meets its contract: the run from the image is halted or spent, and its rows stand in the trace store.
+-- Assumes nothing.
+use borrow.Author.Needs.{needs}
+use mathlib.Core.Path.{_∙_, ap, sym}
+use mathlib.Core.List.{List}
+use Prim.Native.Nat.{ℕ}
+use native.Mathlib.Omega.{arith}
+use Rattle.model.specs.Answers.{report}
+use Rattle.programs.specs.Printing.{fitted}
+use Rattle.programs.proofs.RunLaws.{haltedWord, spentWord, halted-ending, spent-ending, answered, steps-fit, ended-is, never-counts, never-refuses}
+use Rattle.programs.proofs.write_run.Statement.{statement}
+use Rattle.programs.proofs.write_run.Tie as tie
+
+slice-aggregate-to-image : tie.Need-slice-aggregate-to-image
+slice-aggregate-to-image c = search needs
+
+slice-aggregate-to-image-2 : tie.Need-slice-aggregate-to-image-2
+slice-aggregate-to-image-2 c = search needs
+
+to-image-requires : tie.Need-to-image-requires
+to-image-requires c κs = search needs
+
+trace-room-requires : tie.Need-trace-room-requires
+trace-room-requires c κs = search needs
+
+slice-aggregate-run : tie.Need-slice-aggregate-run
+slice-aggregate-run c = search needs
+
+slice-aggregate-run-2 : tie.Need-slice-aggregate-run-2
+slice-aggregate-run-2 c = search needs
+
+run-requires : tie.Need-run-requires
+run-requires c κs = search needs
+
+enum-known-ran : tie.Need-enum-known-ran
+enum-known-ran c = search needs
+
+slice-aggregate-write-ended : tie.Need-slice-aggregate-write-ended
+slice-aggregate-write-ended c = search needs
+
+slice-aggregate-write-ended-2 : tie.Need-slice-aggregate-write-ended-2
+slice-aggregate-write-ended-2 c = search needs
+
+write-ended-requires : tie.Need-write-ended-requires
+write-ended-requires c κs = (omega (arith, c .before .before .before .before .before .before .before .before .run .kept .1 .1 .1 .1 .0, c .before .before .before .before .before .before .before .before .before .before .before .trace-room .ensures), steps-fit (c .before .before .before .before .before .before .before .before .before .before .before .before .before .before .before .before .before .before .args .program .now) (c .before .before .before .before .before .before .before .before .before .before .before .before .before .to-image .last .1 .0) (c .before .before .before .before .before .before .before .before .run .last .1 .1 .1 .0) (c .before .before .before .before .before .before .before .before .before .before .before .trace-room .result) (c .before .before .before .before .before .before .before .before .run .last .1 .1 .1 .1 .0) (c .before .before .before .before .before .before .before .before .run .result) (report (c .before .before .before .before .before .before .before .before .before .before .before .before .before .to-image .result)) (c .before .before .before .before .before .before .before .before .before .before .before .before .before .before .before .before .before .before .pre) (c .before .before .before .before .before .before .before .before .before .before .before .before .before .to-image .ensures) (c .before .before .before .before .before .before .before .before .before .before .before .trace-room .ensures) (c .before .before .before .before .before .before .before .before .run .ensures) haltedWord (c .before .before .before .before .ran .given .0 .1 .0) (halted-ending _ _ (c .before .before .before .before .ran .given .0 .0) (c .before .before .before .before .ran .given .0 .1 .0) (sym (ap report (c .before .before .before .before .ran .given .1)) ∙ answered (c .before .before .before .before .before .before .before .before .before .before .before .before .before .before .before .before .before .before .args .program .now) (c .before .before .before .before .before .before .before .before .before .before .before .before .before .to-image .last .1 .0) (c .before .before .before .before .before .before .before .before .run .last .1 .1 .1 .0) (c .before .before .before .before .before .before .before .before .before .before .before .trace-room .result) (c .before .before .before .before .before .before .before .before .run .last .1 .1 .1 .1 .0) (c .before .before .before .before .before .before .before .before .run .result) (report (c .before .before .before .before .before .before .before .before .before .before .before .before .before .to-image .result)) (c .before .before .before .before .before .before .before .before .before .before .before .before .before .before .before .before .before .before .pre) (c .before .before .before .before .before .before .before .before .before .before .before .before .before .to-image .ensures) (c .before .before .before .before .before .before .before .before .before .before .before .trace-room .ensures) (c .before .before .before .before .before .before .before .before .run .ensures))), omega arith)
+
+enum-known-ran-2 : tie.Need-enum-known-ran-2
+enum-known-ran-2 c = search needs
+
+slice-aggregate-write-ended-3 : tie.Need-slice-aggregate-write-ended-3
+slice-aggregate-write-ended-3 c = search needs
+
+slice-aggregate-write-ended-4 : tie.Need-slice-aggregate-write-ended-4
+slice-aggregate-write-ended-4 c = search needs
+
+write-ended-requires-2 : tie.Need-write-ended-requires-2
+write-ended-requires-2 c κs = (omega (arith, c .before .before .before .before .before .before .before .before .run .kept .1 .1 .1 .1 .0, c .before .before .before .before .before .before .before .before .before .before .before .trace-room .ensures), steps-fit (c .before .before .before .before .before .before .before .before .before .before .before .before .before .before .before .before .before .before .args .program .now) (c .before .before .before .before .before .before .before .before .before .before .before .before .before .to-image .last .1 .0) (c .before .before .before .before .before .before .before .before .run .last .1 .1 .1 .0) (c .before .before .before .before .before .before .before .before .before .before .before .trace-room .result) (c .before .before .before .before .before .before .before .before .run .last .1 .1 .1 .1 .0) (c .before .before .before .before .before .before .before .before .run .result) (report (c .before .before .before .before .before .before .before .before .before .before .before .before .before .to-image .result)) (c .before .before .before .before .before .before .before .before .before .before .before .before .before .before .before .before .before .before .pre) (c .before .before .before .before .before .before .before .before .before .before .before .before .before .to-image .ensures) (c .before .before .before .before .before .before .before .before .before .before .before .trace-room .ensures) (c .before .before .before .before .before .before .before .before .run .ensures) spentWord (c .before .before .before .before .ran2 .given .0 .1 .0) (spent-ending _ _ (c .before .before .before .before .ran2 .given .0 .0) (c .before .before .before .before .ran2 .given .0 .1 .0) (sym (ap report (c .before .before .before .before .ran2 .given .1)) ∙ answered (c .before .before .before .before .before .before .before .before .before .before .before .before .before .before .before .before .before .before .args .program .now) (c .before .before .before .before .before .before .before .before .before .before .before .before .before .to-image .last .1 .0) (c .before .before .before .before .before .before .before .before .run .last .1 .1 .1 .0) (c .before .before .before .before .before .before .before .before .before .before .before .trace-room .result) (c .before .before .before .before .before .before .before .before .run .last .1 .1 .1 .1 .0) (c .before .before .before .before .before .before .before .before .run .result) (report (c .before .before .before .before .before .before .before .before .before .before .before .before .before .to-image .result)) (c .before .before .before .before .before .before .before .before .before .before .before .before .before .before .before .before .before .before .pre) (c .before .before .before .before .before .before .before .before .before .before .before .before .before .to-image .ensures) (c .before .before .before .before .before .before .before .before .before .before .before .trace-room .ensures) (c .before .before .before .before .before .before .before .before .run .ensures))), omega arith)
+
+enum-told : tie.Need-enum-told
+enum-told c = search needs
+
+enum-told-2 : tie.Need-enum-told-2
+enum-told-2 c = search needs
+
+same-length : tie.Need-same-length
+same-length c = search needs
+
+returns : tie.Need-returns
+returns c = c .before .before .write-ended .ensures ∙ ap (λ (t : List ℕ). fitted t (c .before .before .before .before .before .before .before .before .before .before .before .before .before .before .before .before .before .before .before .before .before .args .out .now)) (ended-is (c .before .before .before .before .before .before .before .before .before .before .before .before .before .before .before .before .before .before .before .before .before .args .program .now) (c .before .before .before .before .before .before .before .before .before .before .before .before .before .before .before .before .to-image .last .1 .0) (c .before .before .before .before .before .before .before .before .before .before .before .run .last .1 .1 .1 .0) (c .before .before .before .before .before .before .before .before .before .before .before .before .before .before .trace-room .result) (c .before .before .before .before .before .before .before .before .before .before .before .run .last .1 .1 .1 .1 .0) (c .before .before .before .before .before .before .before .before .before .before .before .run .result) (report (c .before .before .before .before .before .before .before .before .before .before .before .before .before .before .before .before .to-image .result)) (c .before .before .before .before .before .before .before .before .before .before .before .before .before .before .before .before .before .before .before .before .before .pre) (c .before .before .before .before .before .before .before .before .before .before .before .before .before .before .before .before .to-image .ensures) (c .before .before .before .before .before .before .before .before .before .before .before .before .before .before .trace-room .ensures) (c .before .before .before .before .before .before .before .before .before .before .before .run .ensures) haltedWord (c .before .before .before .before .before .before .before .ran .given .0 .1 .0) (halted-ending _ _ (c .before .before .before .before .before .before .before .ran .given .0 .0) (c .before .before .before .before .before .before .before .ran .given .0 .1 .0) (sym (ap report (c .before .before .before .before .before .before .before .ran .given .1)) ∙ answered (c .before .before .before .before .before .before .before .before .before .before .before .before .before .before .before .before .before .before .before .before .before .args .program .now) (c .before .before .before .before .before .before .before .before .before .before .before .before .before .before .before .before .to-image .last .1 .0) (c .before .before .before .before .before .before .before .before .before .before .before .run .last .1 .1 .1 .0) (c .before .before .before .before .before .before .before .before .before .before .before .before .before .before .trace-room .result) (c .before .before .before .before .before .before .before .before .before .before .before .run .last .1 .1 .1 .1 .0) (c .before .before .before .before .before .before .before .before .before .before .before .run .result) (report (c .before .before .before .before .before .before .before .before .before .before .before .before .before .before .before .before .to-image .result)) (c .before .before .before .before .before .before .before .before .before .before .before .before .before .before .before .before .before .before .before .before .before .pre) (c .before .before .before .before .before .before .before .before .before .before .before .before .before .before .before .before .to-image .ensures) (c .before .before .before .before .before .before .before .before .before .before .before .before .before .before .trace-room .ensures) (c .before .before .before .before .before .before .before .before .before .before .before .run .ensures))))
+
+same-length-2 : tie.Need-same-length-2
+same-length-2 c = search needs
+
+returns-2 : tie.Need-returns-2
+returns-2 c = c .before .before .write-ended2 .ensures ∙ ap (λ (t : List ℕ). fitted t (c .before .before .before .before .before .before .before .before .before .before .before .before .before .before .before .before .before .before .before .before .before .args .out .now)) (ended-is (c .before .before .before .before .before .before .before .before .before .before .before .before .before .before .before .before .before .before .before .before .before .args .program .now) (c .before .before .before .before .before .before .before .before .before .before .before .before .before .before .before .before .to-image .last .1 .0) (c .before .before .before .before .before .before .before .before .before .before .before .run .last .1 .1 .1 .0) (c .before .before .before .before .before .before .before .before .before .before .before .before .before .before .trace-room .result) (c .before .before .before .before .before .before .before .before .before .before .before .run .last .1 .1 .1 .1 .0) (c .before .before .before .before .before .before .before .before .before .before .before .run .result) (report (c .before .before .before .before .before .before .before .before .before .before .before .before .before .before .before .before .to-image .result)) (c .before .before .before .before .before .before .before .before .before .before .before .before .before .before .before .before .before .before .before .before .before .pre) (c .before .before .before .before .before .before .before .before .before .before .before .before .before .before .before .before .to-image .ensures) (c .before .before .before .before .before .before .before .before .before .before .before .before .before .before .trace-room .ensures) (c .before .before .before .before .before .before .before .before .before .before .before .run .ensures) spentWord (c .before .before .before .before .before .before .before .ran2 .given .0 .1 .0) (spent-ending _ _ (c .before .before .before .before .before .before .before .ran2 .given .0 .0) (c .before .before .before .before .before .before .before .ran2 .given .0 .1 .0) (sym (ap report (c .before .before .before .before .before .before .before .ran2 .given .1)) ∙ answered (c .before .before .before .before .before .before .before .before .before .before .before .before .before .before .before .before .before .before .before .before .before .args .program .now) (c .before .before .before .before .before .before .before .before .before .before .before .before .before .before .before .before .to-image .last .1 .0) (c .before .before .before .before .before .before .before .before .before .before .before .run .last .1 .1 .1 .0) (c .before .before .before .before .before .before .before .before .before .before .before .before .before .before .trace-room .result) (c .before .before .before .before .before .before .before .before .before .before .before .run .last .1 .1 .1 .1 .0) (c .before .before .before .before .before .before .before .before .before .before .before .run .result) (report (c .before .before .before .before .before .before .before .before .before .before .before .before .before .before .before .before .to-image .result)) (c .before .before .before .before .before .before .before .before .before .before .before .before .before .before .before .before .before .before .before .before .before .pre) (c .before .before .before .before .before .before .before .before .before .before .before .before .before .before .before .before .to-image .ensures) (c .before .before .before .before .before .before .before .before .before .before .before .before .before .before .trace-room .ensures) (c .before .before .before .before .before .before .before .before .before .before .before .run .ensures))))
+
+returns-3 : tie.Need-returns-3
+returns-3 c = absurd (never-counts (c .before .before .before .before .before .before .before .before .before .before .before .before .before .before .args .program .now) (c .before .before .before .before .before .before .before .before .before .to-image .last .1 .0) (c .before .before .before .before .run .last .1 .1 .1 .0) (c .before .before .before .before .before .before .before .trace-room .result) (c .before .before .before .before .run .last .1 .1 .1 .1 .0) (c .before .before .before .before .run .result) (report (c .before .before .before .before .before .before .before .before .before .to-image .result)) (c .before .before .before .before .before .before .before .before .before .before .before .before .before .before .pre) (c .before .before .before .before .before .before .before .before .before .to-image .ensures) (c .before .before .before .before .before .before .before .trace-room .ensures) (c .before .before .before .before .run .ensures) (c .enum-told .given .0 .0) (ap report (c .enum-told .given .1)))
+
+returns-4 : tie.Need-returns-4
+returns-4 c = absurd (never-refuses (c .before .before .before .before .before .before .before .before .before .before .before .before .before .before .args .program .now) (c .before .before .before .before .before .before .before .before .before .to-image .last .1 .0) (c .before .before .before .before .run .last .1 .1 .1 .0) (c .before .before .before .before .before .before .before .trace-room .result) (c .before .before .before .before .run .last .1 .1 .1 .1 .0) (c .before .before .before .before .run .result) (report (c .before .before .before .before .before .before .before .before .before .to-image .result)) (c .before .before .before .before .before .before .before .before .before .before .before .before .before .before .pre) (c .before .before .before .before .before .before .before .before .before .to-image .ensures) (c .before .before .before .before .before .before .before .trace-room .ensures) (c .before .before .before .before .run .ensures) (c .enum-told2 .given .0 .0) (c .enum-told2 .given .0 .1 .0) (ap report (c .enum-told2 .given .1)))
+
+pub write-run-spec : {M : Type 1} → statement M
+write-run-spec =
+    tie.close
+    (tie.spec
+    slice-aggregate-to-image
+    slice-aggregate-to-image-2
+    to-image-requires
+    trace-room-requires
+    slice-aggregate-run
+    slice-aggregate-run-2
+    run-requires
+    enum-known-ran
+    slice-aggregate-write-ended
+    slice-aggregate-write-ended-2
+    write-ended-requires
+    enum-known-ran-2
+    slice-aggregate-write-ended-3
+    slice-aggregate-write-ended-4
+    write-ended-requires-2
+    enum-told
+    enum-told-2
+    same-length
+    returns
+    same-length-2
+    returns-2
+    returns-3
+    returns-4)

@@ -1,0 +1,3 @@
+pub mod Printing
+pub mod Loading
+pub mod Running

@@ -1,0 +1,140 @@
+// What the two programs print of the bytes on standard input, written to a lent store: the expansion of the program that the bytes
+// are, and the trace of its run. lines.rt prints lines of numbers.
+ghost use mathlib.Core.Path.{_≡_};
+ghost use mathlib.Core.List.{[], _∷_};
+ghost use Prim.Native.Nat.{_*_, _≤_};
+ghost use lib.ListN.{length};
+ghost use Rattle.model.specs.Answers.{report, outcome, counted};
+ghost use Rattle.model.specs.Limits.{lineWidth, rowWidth};
+ghost use Rattle.model.specs.Stored.{lineCount, programCheck};
+ghost use Rattle.model.specs.Programs.{orRefusal, inputSize, expandPrints, tracePrints, traceBudget};
+ghost use Rattle.programs.specs.Printing.{fitted};
+ghost use Rattle.programs.specs.Loading.{loadOutcome, mostNumbers};
+ghost use Rattle.programs.specs.Running.{runText, endedText};
+use crate::lines::ROW_WIDTH;
+use crate::lines::write_lines;
+use coding::LINE_WIDTH;
+use model::Answer;
+
+mod lines;
+
+// The most bytes of an input.
+const INPUT_SIZE: usize = 4096;
+
+// The budget of the run.
+const TRACE_BUDGET: u16 = 1000;
+
+// Room for the lines of every input: each line takes a byte or more.
+fn store_room() -> [u16; 24576]
+    ensures { λ r. ⌜ length r ≡ lineWidth * inputSize ⌝ }
+{
+    [0u16; 24576]
+}
+
+// Room for every expansion.
+fn listing_room() -> [u16; 79872]
+    ensures { λ r. ⌜ length r ≡ mostNumbers ⌝ }
+{
+    [0u16; 79872]
+}
+
+// Room for the rows of every run.
+fn trace_room() -> [u16; 6000]
+    ensures { λ r. ⌜ length r ≡ rowWidth * traceBudget ⌝ }
+{
+    [0u16; 6000]
+}
+
+// Reads the text of a program and expands it.
+fn load(input: &[u8], listing: &mut [u16]) -> Answer
+    requires { ⌜ mostNumbers ≤ length (now listing) ⌝ }
+    ensures { λ r. ⌜ outcome (report r) (now (listing .exit) ∷ []) ≡ loadOutcome (now (input .entry)) (now (listing .entry)) ⌝ }
+{
+    if INPUT_SIZE < input.len() {
+        return Answer::Refused { number: 8, line: 0 };
+    }
+    let mut store = store_room();
+    let got = text::read(input, &mut store);
+    let Answer::Count(n) = got else {
+        return got;
+    };
+    let end = LINE_WIDTH * (n as usize);
+    expander::expand(&store[..end], listing)
+}
+
+// Writes the line of a refusal; nothing for another answer.
+fn write_refusal(answer: Answer, out: &mut [u8]) -> Answer
+    ensures { λ r. ⌜ outcome (report r) (now (out .exit) ∷ []) ≡ fitted (orRefusal (report answer) []) (now (out .entry)) ⌝ }
+{
+    match answer {
+        Answer::Refused { number, line } => {
+            let rows = [0u16; 1];
+            let last = [number as u16, line];
+            write_lines(&rows[..0], b"refused,", &last, out)
+        }
+        Answer::Count(_) => Answer::Count(0),
+        Answer::Halted {
+            counter: _,
+            steps: _,
+        } => Answer::Count(0),
+        Answer::Spent {
+            counter: _,
+            steps: _,
+        } => Answer::Count(0),
+    }
+}
+
+// Writes the rows of the steps done, and the line of the ending.
+fn write_ended(trace: &[u16], word: &[u8], steps: u16, out: &mut [u8]) -> Answer
+    requires { ⌜ (length (now trace) ≤ rowWidth * traceBudget) × (rowWidth * steps ≤ length (now trace)) × (length (now word) ≤ 7) ⌝ }
+    ensures { λ r. ⌜ outcome (report r) (now (out .exit) ∷ []) ≡ fitted (endedText (now (trace .entry)) (now (word .entry)) steps) (now (out .entry)) ⌝ }
+{
+    let last = [steps];
+    let end = ROW_WIDTH * (steps as usize);
+    write_lines(&trace[..end], word, &last, out)
+}
+
+// Runs a program from the image of the all-zero state, and writes its trace.
+fn write_run(program: &[u16], out: &mut [u8]) -> Answer
+    requires { ⌜ programCheck (now program) ≡ counted (lineCount (now program)) ⌝ }
+    ensures { λ r. ⌜ outcome (report r) (now (out .exit) ∷ []) ≡ fitted (runText (now (program .entry))) (now (out .entry)) ⌝ }
+{
+    let bits = [0u8; 544];
+    let mut state = [0u8; 544];
+    images::to_image(&bits, &mut state);
+    let mut trace = trace_room();
+    let ran = machine::run(program, 0, TRACE_BUDGET, &mut state, &mut trace);
+    match ran {
+        Answer::Halted { counter: _, steps } => write_ended(&trace, b"halted,", steps, out),
+        Answer::Spent { counter: _, steps } => write_ended(&trace, b"spent,", steps, out),
+        // A run with room for its trace ends in one of the two.
+        Answer::Count(_) => ran,
+        Answer::Refused { number: _, line: _ } => ran,
+    }
+}
+
+// The text of the expansion, or of a refusal.
+pub fn print_expansion(input: &[u8], out: &mut [u8]) -> Answer
+    ensures { λ r. ⌜ outcome (report r) (now (out .exit) ∷ []) ≡ fitted (expandPrints (now (input .entry))) (now (out .entry)) ⌝ }
+{
+    let mut listing = listing_room();
+    let loaded = load(input, &mut listing);
+    let Answer::Count(n) = loaded else {
+        return write_refusal(loaded, out);
+    };
+    let end = LINE_WIDTH * (n as usize);
+    text::write(&listing[..end], out)
+}
+
+// The text of the trace, or of a refusal.
+pub fn print_trace(input: &[u8], out: &mut [u8]) -> Answer
+    ensures { λ r. ⌜ outcome (report r) (now (out .exit) ∷ []) ≡ fitted (tracePrints (now (input .entry))) (now (out .entry)) ⌝ }
+{
+    let mut listing = listing_room();
+    let loaded = load(input, &mut listing);
+    let Answer::Count(n) = loaded else {
+        return write_refusal(loaded, out);
+    };
+    let end = LINE_WIDTH * (n as usize);
+    write_run(&listing[..end], out)
+}
