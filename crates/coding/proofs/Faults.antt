@@ -5,15 +5,14 @@ use mathlib.Core.Logic.{⊎-elim}
 use mathlib.Core.Bool.{Bool, true, false, cond, not, _&&_}
 use mathlib.Core.List.{[], _∷_}
 use mathlib.Core.Option.{none, some}
-use Prim.Native.Nat.{ℕ, zero, suc, _-_, _/_, _%_, _<_, _≤_}
+use Prim.Native.Nat.{ℕ, zero, suc, _-_, _/_, _%_, _<_}
 use native.Mathlib.Nat.{eq-or-lt-of-le, le-of-suc-le-suc, not-suc-le-zero}
 use lib.Dec.{ltb}
-use borrow.Author.Tests.{lt-ltb, le-ltb}
-use Rattle.model.specs.declared.Operand.{Operand}
+use borrow.Author.Tests.{lt-ltb}
 use Rattle.model.specs.declared.Operand.the-variants.{Empty, Literal, Register, Cell, PublicCell, SensitiveCell, TableCell}
-use Rattle.model.specs.Lines.{Filled, filled, fills, isLiteral}
+use Rattle.model.specs.Lines.{filled, fills, isLiteral}
 use Rattle.model.specs.Stored.{literals, registers, cells, publics, sensitives, tables, marks, opcodes, operands, targets}
-use Rattle.model.specs.Stored.{opcodeOf, operandOf, Field, Parsed, numbers, wrong, orWrong, sameFilled, noLiteral, parsed, storedField, parsedNumbers, fault}
+use Rattle.model.specs.Stored.{opcodeOf, operandOf, Field, numbers, wrong, orWrong, sameFilled, parsed, parsedNumbers, fault}
 use Rattle.coding.specs.Fields.{shape, inRange}
 
 -- ---- a literal's number

@@ -1,6 +1,5 @@
 pub mod Tests
 pub mod Numbers
 pub mod Faults
-pub mod Lines
 pub mod Programs
 pub mod Codes

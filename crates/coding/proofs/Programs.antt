@@ -1,6 +1,6 @@
 -- The check of a stored program, line by line, and what its success tells a caller.
 -- Assumes nothing.
-use mathlib.Core.Path.{_≡_, refl, sym, ap, _∙_}
+use mathlib.Core.Path.{_≡_, refl, sym, ap}
 use mathlib.Core.Bool.{Bool, true, false, cond}
 use mathlib.Core.List.{List, [], _∷_}
 use Prim.Native.Nat.{ℕ, zero, suc, _+_, _-_, _*_, _<_, _≤_}
@@ -9,7 +9,7 @@ use lib.Dec.{eqb, ltb}
 use lib.ListN.{length}
 use borrow.Author.Tests.{eq-eqb, ne-eqb, lt-ltb, le-ltb, ltb-false}
 use Rattle.model.specs.Limits.{maxLines, lineWidth}
-use Rattle.model.specs.Answers.{Report, done, counted, refused}
+use Rattle.model.specs.Answers.{done, counted, refused}
 use Rattle.model.specs.Stored.{lineCount, faultAt, checkFrom, programCheck}
 
 -- ---- one line of the check

@@ -1,5 +1,4 @@
 -- An answer packed into one number, for C and Rust. Assumes nothing.
-use mathlib.Core.List.{List}
 use Prim.Native.Nat.{ℕ, _+_, _*_, _^_}
 use lib.ListN.{getD}
 use Rattle.model.specs.Answers.{Report, done, refused}

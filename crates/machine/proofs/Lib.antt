@@ -3,4 +3,3 @@ pub mod Product
 pub mod Loops
 pub mod Traces
 pub mod Outcomes
-pub mod Endings

@@ -1,12 +1,12 @@
 -- The loop over steps, one turn at a time: what is left gives the same outcome as the whole.
 -- Assumes nothing.
-use mathlib.Core.Path.{_≡_, refl, sym, ap, _∙_}
+use mathlib.Core.Path.{_≡_, sym, ap, _∙_}
 use mathlib.Core.List.{List}
 use Prim.Native.Nat.{ℕ, zero, suc, _+_, _-_, _<_, _≤_}
 use native.Mathlib.Omega.{arith}
 use borrow.Author.Tests.{lt-ltb, le-ltb}
 use Rattle.model.specs.Answers.{Outcome}
-use Rattle.machine.specs.Loop.{Machine, machine, stepBy, stepOf, haltedAt, spentAt, runFrom}
+use Rattle.machine.specs.Loop.{Machine, stepBy, stepOf, haltedAt, spentAt, runFrom}
 
 module _ (p : List ℕ) (n b : ℕ) (m : Machine) where
   pub begins : runFrom p n (b - 0) m ≡ runFrom p n b m

@@ -1,13 +1,13 @@
 -- The outcome of a whole run: each way that it is refused, and the loop over steps where it is not.
 -- Assumes nothing.
-use mathlib.Core.Path.{_≡_, refl, sym, ap, _∙_}
+use mathlib.Core.Path.{_≡_, ap, _∙_}
 use mathlib.Core.List.{List, [], _∷_}
 use Prim.Native.Nat.{ℕ, _*_, _<_, _≤_}
 use lib.ListN.{length}
 use borrow.Author.Tests.{eq-eqb, ne-eqb, lt-ltb, le-ltb}
 use Rattle.model.specs.Limits.{stateSize, rowWidth}
 use Rattle.model.specs.Answers.{counted, refused, outcome}
-use Rattle.model.specs.Stored.{lineCount, programCheck}
+use Rattle.model.specs.Stored.{programCheck}
 use Rattle.model.specs.Run.{runOutcome}
 use Rattle.coding.proofs.Programs.{count-bounds}
 use Rattle.machine.specs.Loop.{machine, runFrom}

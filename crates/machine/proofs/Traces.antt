@@ -3,7 +3,7 @@
 use mathlib.Core.Path.{_≡_, refl, sym, ap, _∙_}
 use mathlib.Core.Bool.{Bool, true, false, cond}
 use mathlib.Core.List.{List, [], _∷_, _++_, append-assoc, flatMap}
-use Prim.Native.Nat.{ℕ, zero, suc, _+_, _-_, _*_, _<_, _≤_}
+use Prim.Native.Nat.{ℕ, zero, suc, _+_, _*_, _<_, _≤_}
 use native.Mathlib.Nat.{zero-add}
 use native.Mathlib.Omega.{arith}
 use lib.Dec.{ltb}
@@ -16,7 +16,7 @@ use Rattle.model.specs.Answers.{halted, spent, Outcome, outcome}
 use Rattle.model.specs.Stored.{lineAt, lineCount, lines}
 use Rattle.model.specs.Step.{Row, next, after, row}
 use Rattle.model.specs.Run.{Ran, push, run, answer, runLeaves}
-use Rattle.coding.proofs.Lines.{lines-length, line-there, line-past}
+use Rattle.model.proofs.StoredLaws.{length-lines, get-line, no-line}
 use Rattle.machine.specs.Loop.{Machine, machine, putRow, stepBy, stepOf, haltedAt, spentAt, runFrom}
 
 -- ---- a row in the store
@@ -96,11 +96,11 @@ room p b m h =
 run-goes : (p : List ℕ) (b k : ℕ) (s : List ℕ) → k < lineCount p
     → run (lines p) (suc b) k s ≡ push (row (lineAt p k) k s) (run (lines p) b (next (lineAt p k) k s) (after (lineAt p k) s))
 unfolding run
-run-goes p b k s h = rw (line-there p k h, run)
+run-goes p b k s h = rw (get-line p k h, run)
 
 run-ends : (p : List ℕ) (b k : ℕ) (s : List ℕ) → lineCount p ≤ k → run (lines p) (suc b) k s ≡ record { at = k; state = s; rows = [] }
 unfolding run
-run-ends p b k s h = rw (line-past p k h, run)
+run-ends p b k s h = rw (no-line p k h, run)
 
 run-left : (p : List ℕ) (b : ℕ) (m : Machine) → rowWidth * (m .run .steps + b) ≤ length (m .trace)
     → runFrom p (lineCount p) b m ≡ left m (lineCount p) (run (lines p) b (m .run .counter) (m .state))
@@ -125,4 +125,4 @@ unfolding runLeaves answer
 run-leaves p c b s t h =
     let x = run (lines p) b c s in
     run-left p b (machine (record { counter = c; steps = 0 }) s t) (omega arith)
-    ∙ rw (lines-length p, zero-add (length (x .rows)), zero-add (length (flat (x .rows))))
+    ∙ rw (length-lines p, zero-add (length (x .rows)), zero-add (length (flat (x .rows))))

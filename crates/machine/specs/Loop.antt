@@ -4,7 +4,7 @@ use mathlib.Core.Bool.{cond}
 use mathlib.Core.List.{List, [], _∷_, _++_}
 use Prim.Native.Nat.{ℕ, zero, suc, _+_, _*_}
 use lib.Dec.{ltb}
-use lib.ListN.{getD, take, drop}
+use lib.ListN.{take, drop}
 use Rattle.model.specs.declared.Mark.{Mark}
 use Rattle.model.specs.declared.Line.{Line}
 use Rattle.model.specs.declared.Operand.{Operand}

@@ -1,6 +1,6 @@
 -- What reads, checks or expands answers a count or a refusal, and never as a run does. Assumes nothing.
 use Prim.Native.Nat.{ℕ, zero, suc, _+_}
-use mathlib.Core.Path.{_≡_, refl, sym, ap, _∙_}
+use mathlib.Core.Path.{_≡_, refl, sym, _∙_}
 use mathlib.Core.Bool.{Bool, true, false, cond}
 use mathlib.Core.List.{List, [], _∷_}
 use mathlib.Core.Logic.{inl, inr}
@@ -16,7 +16,7 @@ use Rattle.model.specs.declared.Line.{Line}
 use Rattle.model.specs.Limits.{maxAccepted}
 use Rattle.model.specs.Answers.{Report, done, refused, counted, report, andThen}
 use Rattle.model.specs.Stored.{Parsed, numbers, wrong, lines, programCheck}
-use Rattle.model.specs.Text.{newline, past, frontLine, Reading, ends, thenReads, reading}
+use Rattle.model.specs.Text.{newline, past, frontLine, Reading, thenReads, reading}
 use Rattle.model.specs.Marks.{markFault, firstBad, marksOf, markCheck}
 use Rattle.model.proofs.RoundTrip.{reading-zero, reading-suc}
 
@@ -24,7 +24,7 @@ pub data CountOrRefusal (r : Report) : Type 0 where
   counts : (n : ℕ) → r ≡ counted n → CountOrRefusal r
   refuses : (k l : ℕ) → r ≡ refused k l → CountOrRefusal r
 
-either : (t : Bool) (x y : Report) → CountOrRefusal x → CountOrRefusal y → CountOrRefusal (cond t x y)
+pub either : (t : Bool) (x y : Report) → CountOrRefusal x → CountOrRefusal y → CountOrRefusal (cond t x y)
 either true x y a b = a
 either false x y a b = b
 

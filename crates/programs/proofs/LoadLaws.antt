@@ -1,9 +1,9 @@
 -- From the input's bytes to the expansion: what `text::read` and `expander::expand` leave is what the programs' definitions say, and
 -- neither of the two stores is ever too small. Assumes nothing.
-use Prim.Native.Nat.{ℕ, _+_, _*_, _/_, _≤_, _<_}
-use mathlib.Core.Path.{_≡_, refl, sym, ap, ap₂, _∙_}
+use Prim.Native.Nat.{ℕ, _*_, _/_, _≤_, _<_}
+use mathlib.Core.Path.{_≡_, refl, sym, ap, _∙_}
 use mathlib.Core.Bool.{Bool, true, false, cond}
-use mathlib.Core.List.{List, [], _∷_, _++_, flatMap}
+use mathlib.Core.List.{List, [], _∷_, flatMap}
 use native.Mathlib.Omega.{arith}
 use borrow.Author.Tests.{lt-ltb, le-ltb}
 use lib.Dec.{ltb}
@@ -26,7 +26,7 @@ use Rattle.model.proofs.OutcomeLaws.{first-store}
 use Rattle.programs.specs.Printing.{fitted}
 use Rattle.programs.specs.Loading.{mostNumbers, readInput, expansionOf, loadAnswer, loadOutcome}
 use Rattle.programs.proofs.ReadRoom.{room-enough}
-use Rattle.programs.proofs.Answers.{CountOrRefusal, counts, refuses, then-answers, reading-answers, check-answers, NoCount, Refusal, no-count-refuses}
+use Rattle.programs.proofs.Answers.{CountOrRefusal, counts, refuses, either, then-answers, reading-answers, check-answers, NoCount, Refusal, no-count-refuses}
 
 -- ---- the definitions' clauses, with what they cite shut
 
@@ -60,14 +60,10 @@ printed-is text input = refl
 
 -- ---- what loading answers
 
-either-answers : (t : Bool) (x y : Report) → CountOrRefusal x → CountOrRefusal y → CountOrRefusal (cond t x y)
-either-answers true x y a b = a
-either-answers false x y a b = b
-
 pub load-answers : (input : List ℕ) → CountOrRefusal (loadAnswer input)
 load-answers input =
     rw (load-answer input)
-    (either-answers (ltb inputSize (length input)) _ _ (refuses 8 0 refl)
+    (either (ltb inputSize (length input)) _ _ (refuses 8 0 refl)
     (then-answers (readInput input .answer) _ (then-answers (markCheck (readInput input .stored)) _ (counts (length (expansionOf input)) refl))))
 
 refusal-leaves : (r : Report) (store : List ℕ) (x : Outcome) → Refusal r → outcome r (store ∷ []) ≡ unlessRefused r (store ∷ []) x

@@ -9,7 +9,7 @@ use borrow.Author.Tests.{eqb-false, lt-leb}
 use lib.Dec.{eqb, leb}
 use lib.ListN.{length}
 use Rattle.model.specs.Answers.{counted, refused}
-use Rattle.model.specs.Text.{newline, past, frontLine, Reading, ends, thenReads, reading}
+use Rattle.model.specs.Text.{newline, past, frontLine, ends, thenReads, reading}
 use Rattle.model.proofs.RoundTrip.{reading-zero, reading-suc}
 
 past-most : (c : ℕ) (s : List ℕ) → length (past c s) ≤ length s
@@ -35,9 +35,6 @@ room-enough zero n room room′ text h g = reading-zero n room text ∙ sym (rea
 room-enough (suc more) n room room′ text h g =
     reading-suc more n room text ∙ by (eqb (length text) 0) refl (λ a b. room-enough more (n + 1) room room′ (past newline text) a b) ∙ sym (reading-suc more n room′ text)
   where
-    next : ℕ → Reading
-    next r = reading more (n + 1) r (past newline text)
-
     by : (t : Bool) → eqb (length text) 0 ≡ t
         → (n + 1 + length (past newline text) ≤ room → n + 1 + length (past newline text) ≤ room′ → reading more (n + 1) room (past newline text) ≡ reading more (n + 1) room′ (past newline text))
         → cond t (ends (counted n)) (cond (leb room n) (ends (refused 8 n)) (thenReads (frontLine text) n (reading more (n + 1) room (past newline text))))

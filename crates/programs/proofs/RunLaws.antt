@@ -1,7 +1,7 @@
 -- The text of a run: its rows stand in the trace store, six numbers each, and its ending is the answer's. Assumes nothing.
-use Prim.Native.Nat.{ℕ, zero, suc, _+_, _*_, _/_, _≤_}
+use Prim.Native.Nat.{ℕ, zero, suc, _*_, _/_, _≤_}
 use mathlib.Core.Path.{_≡_, refl, sym, ap, ap₂, _∙_}
-use mathlib.Core.Bool.{Bool, true, false, cond, _&&_}
+use mathlib.Core.Bool.{Bool, true, false, cond}
 use mathlib.Core.List.{List, [], _∷_, _++_, flatMap}
 use mathlib.Core.Option.{Option, none, some}
 use native.Mathlib.Omega.{arith}
@@ -24,7 +24,7 @@ use Rattle.model.proofs.OutcomeLaws.{first-store, second-store}
 use Rattle.model.proofs.PlaceLaws.{mapAt-length}
 use Rattle.model.proofs.Runs.{run-zero, stopped, step-run}
 use Rattle.programs.specs.Printing.{fitted, rowsFrom, rowsText, linesText}
-use Rattle.programs.specs.Loading.{readInput, loadOutcome}
+use Rattle.programs.specs.Loading.{loadOutcome}
 use Rattle.programs.specs.Running.{runText, endedText}
 use Rattle.programs.proofs.Answers.{NoCount}
 use Rattle.programs.proofs.LoadLaws.{Loaded, part-lines, refusal-printed}
@@ -73,44 +73,51 @@ pub record Ending (p : List Line) (x : Ran) (word : List ℕ) (k : ℕ) : Type 0
   pub steps : k ≡ length (x .rows)
   pub line : endingText p x ≡ word ++ numbersText (k ∷ [])
 
--- `halted,` and `spent,`
-abbrev pub haltedWord : List ℕ
-haltedWord = 104 ∷ 97 ∷ 108 ∷ 116 ∷ 101 ∷ 100 ∷ 44 ∷ []
+-- `spent,` where the run stands below the line count, else `halted,`, and the numbers of the two in an answer
+abbrev pub endWord : Bool → List ℕ
+endWord true = 115 ∷ 112 ∷ 101 ∷ 110 ∷ 116 ∷ 44 ∷ []
+endWord false = 104 ∷ 97 ∷ 108 ∷ 116 ∷ 101 ∷ 100 ∷ 44 ∷ []
 
-abbrev pub spentWord : List ℕ
-spentWord = 115 ∷ 112 ∷ 101 ∷ 110 ∷ 116 ∷ 44 ∷ []
+abbrev pub endNumber : Bool → ℕ
+endNumber true = 1
+endNumber false = 0
 
-answer-is : (p : List Line) (x : Ran) → answer p x ≡ cond (ltb (x .at) (length p)) (spent (x .at) (length (x .rows))) (halted (x .at) (length (x .rows)))
-unfolding answer
-answer-is p x = refl
+same-end : (b t : Bool) → endNumber b ≡ endNumber t → b ≡ t
+same-end true true e = refl
+same-end true false e = absurd (omega arith)
+same-end false true e = absurd (omega arith)
+same-end false false e = refl
 
-pub ending-is : (p : List Line) (x : Ran) → endingText p x ≡ cond (ltb (x .at) (length p)) (spentWord ++ numbersText (length (x .rows) ∷ [])) (haltedWord ++ numbersText (length (x .rows) ∷ []))
-unfolding endingText
-ending-is p x = refl
-
-module _ (p : List Line) (x : Ran) (c k : ℕ) where
-  pub halted-ending : halted c k ≡ answer p x → Ending p x haltedWord k
-  halted-ending e = by (ltb (x .at) (length p)) (e ∙ answer-is p x) (ending-is p x)
+module _ (p : List Line) (x : Ran) where
+  answer-is : answer p x ≡ done (endNumber (ltb (x .at) (length p)) ∷ x .at ∷ length (x .rows) ∷ [])
+  unfolding answer
+  answer-is = by (ltb (x .at) (length p))
     where
-      by : (t : Bool) → halted c k ≡ cond t (spent (x .at) (length (x .rows))) (halted (x .at) (length (x .rows)))
-          → endingText p x ≡ cond t (spentWord ++ numbersText (length (x .rows) ∷ [])) (haltedWord ++ numbersText (length (x .rows) ∷ [])) → Ending p x haltedWord k
-      by true q l = let z : _≡_ {A = ℕ} 0 1 = cc q in absurd (omega arith)
-      by false q l = let s : k ≡ length (x .rows) = cc q in record { steps = s; line = l ∙ ap (λ (n : ℕ). haltedWord ++ numbersText (n ∷ [])) (sym s) }
+      by : (t : Bool) → cond t (spent (x .at) (length (x .rows))) (halted (x .at) (length (x .rows))) ≡ done (endNumber t ∷ x .at ∷ length (x .rows) ∷ [])
+      by true = refl
+      by false = refl
 
-  pub spent-ending : spent c k ≡ answer p x → Ending p x spentWord k
-  spent-ending e = by (ltb (x .at) (length p)) (e ∙ answer-is p x) (ending-is p x)
+  pub ending-is : endingText p x ≡ endWord (ltb (x .at) (length p)) ++ numbersText (length (x .rows) ∷ [])
+  unfolding endingText
+  ending-is = by (ltb (x .at) (length p)) (length (x .rows) ∷ [])
     where
-      by : (t : Bool) → spent c k ≡ cond t (spent (x .at) (length (x .rows))) (halted (x .at) (length (x .rows)))
-          → endingText p x ≡ cond t (spentWord ++ numbersText (length (x .rows) ∷ [])) (haltedWord ++ numbersText (length (x .rows) ∷ [])) → Ending p x spentWord k
-      by false q l = let z : _≡_ {A = ℕ} 0 1 = cc q in absurd (omega arith)
-      by true q l = let s : k ≡ length (x .rows) = cc q in record { steps = s; line = l ∙ ap (λ (n : ℕ). spentWord ++ numbersText (n ∷ [])) (sym s) }
+      by : (t : Bool) (n : List ℕ) → cond t (endWord true ++ numbersText n) (endWord false ++ numbersText n) ≡ endWord t ++ numbersText n
+      by true n = refl
+      by false n = refl
 
-no-other : (p : List Line) (x : Ran) (r : Report) → r ≡ answer p x → ((n : ℕ) → r ≡ counted n → ⊥) × ((k l : ℕ) → r ≡ refused k l → ⊥)
-no-other p x r e = by (ltb (x .at) (length p)) (e ∙ answer-is p x)
-  where
-    by : (t : Bool) → r ≡ cond t (spent (x .at) (length (x .rows))) (halted (x .at) (length (x .rows))) → ((n : ℕ) → r ≡ counted n → ⊥) × ((k l : ℕ) → r ≡ refused k l → ⊥)
-    by true q = (λ n z. let w : _≡_ {A = ℕ} 0 1 = cc (q, z) in omega arith, λ k l z. let w : _≡_ {A = ℕ} 0 1 = cc (q, z) in omega arith)
-    by false q = (λ n z. let w : _≡_ {A = ℕ} 0 1 = cc (q, z) in omega arith, λ k l z. let w : _≡_ {A = ℕ} 0 1 = cc (q, z) in omega arith)
+  pub ending : (b : Bool) (c k : ℕ) → done (endNumber b ∷ c ∷ k ∷ []) ≡ answer p x → Ending p x (endWord b) k
+  ending b c k e =
+      let t : Bool = ltb (x .at) (length p) in
+      let q : done (endNumber b ∷ c ∷ k ∷ []) ≡ done (endNumber t ∷ x .at ∷ length (x .rows) ∷ []) = e ∙ answer-is in
+      let s : k ≡ length (x .rows) = cc q in
+      let w : endNumber b ≡ endNumber t = cc q in
+      record { steps = s; line = ending-is ∙ ap₂ (λ (u : Bool) (n : ℕ). endWord u ++ numbersText (n ∷ [])) (sym (same-end b t w)) (sym s) }
+
+  never-count : (n : ℕ) → counted n ≡ answer p x → ⊥
+  never-count n e = let q : counted n ≡ done (endNumber (ltb (x .at) (length p)) ∷ x .at ∷ length (x .rows) ∷ []) = e ∙ answer-is in let z : _≡_ {A = ℕ} 0 1 = cc q in omega arith
+
+  never-refused : (k l : ℕ) → refused k l ≡ answer p x → ⊥
+  never-refused k l e = let q : refused k l ≡ done (endNumber (ltb (x .at) (length p)) ∷ x .at ∷ length (x .rows) ∷ []) = e ∙ answer-is in let z : _≡_ {A = ℕ} 0 1 = cc q in omega arith
 
 -- ---- the image of the all-zero state
 
@@ -203,10 +210,10 @@ module _ (p state state′ t new : List ℕ) (a : Answer) (r : Report) (ok : pro
         ∙ sym (trace-text (lines p) ran) ∙ sym (run-text p)
 
   pub never-counts : (n : ℕ) → report a ≡ counted n → ⊥
-  never-counts n q = no-other (lines p) ran (report a) answered .0 n q
+  never-counts n q = never-count (lines p) ran n (sym q ∙ answered)
 
   pub never-refuses : (k l : ℕ) → report a ≡ refused k l → ⊥
-  never-refuses k l q = no-other (lines p) ran (report a) answered .1 k l q
+  never-refuses k l q = never-refused (lines p) ran k l (sym q ∙ answered)
 
 -- ---- what the second program prints
 

@@ -1,6 +1,6 @@
 -- How long the two programs' texts are at most, so that a store of that length is never refused with 17. Assumes nothing.
 use Prim.Native.Nat.{ℕ, zero, suc, _+_, _*_, _≤_}
-use mathlib.Core.Path.{_≡_, refl, sym, ap, _∙_}
+use mathlib.Core.Path.{_≡_, refl, sym, ap}
 use mathlib.Core.Bool.{Bool, true, false, cond}
 use mathlib.Core.List.{List, [], _∷_, _++_, flatMap}
 use mathlib.Core.Option.{Option, none, some}
@@ -8,7 +8,7 @@ use native.Mathlib.Omega.{arith}
 use lib.Dec.{ltb}
 use lib.ListN.{length, getElem?, length-append}
 use Rattle.model.specs.declared.Line.{Line}
-use Rattle.model.specs.Limits.{longest, maxAccepted, rowWidth}
+use Rattle.model.specs.Limits.{rowWidth}
 use Rattle.model.specs.Answers.{Report, done, refused, counted, outcome, atFront}
 use Rattle.model.specs.Places.{State}
 use Rattle.model.specs.Lines.{AllCorrect}
@@ -29,7 +29,7 @@ use Rattle.programs.proofs.Answers.{check-answers}
 use Rattle.programs.proofs.LeftLaws.{all-fits}
 use Rattle.programs.proofs.LineTexts.{listed, cons-text}
 use Rattle.programs.proofs.LoadLaws.{printed-is, accepted-if, expand-prints}
-use Rattle.programs.proofs.RunLaws.{Sixes, run-sixes, ending-is, spentWord, haltedWord, trace-text, lineRun, trace-prints}
+use Rattle.programs.proofs.RunLaws.{Sixes, run-sixes, ending-is, endWord, trace-text, lineRun, trace-prints}
 
 -- ---- lines of numbers
 
@@ -98,7 +98,7 @@ rows-most (r ∷ rs) h = omega (arith, length-append (numbersText r) (flatMap nu
 ending-most : (p : List Line) (x : Ran) → length (endingText p x) ≤ 13
 ending-most p x = rw (ending-is p x) (by (ltb (x .at) (length p)))
   where
-    by : (t : Bool) → length (cond t (spentWord ++ numbersText (length (x .rows) ∷ [])) (haltedWord ++ numbersText (length (x .rows) ∷ []))) ≤ 13
+    by : (t : Bool) → length (endWord t ++ numbersText (length (x .rows) ∷ [])) ≤ 13
     by true = omega (arith, numbers-most (length (x .rows)) [])
     by false = omega (arith, numbers-most (length (x .rows)) [])
 

@@ -2,12 +2,13 @@
 -- Assumes nothing.
 use borrow.Author.Needs.{needs}
 use mathlib.Core.Path.{_∙_, ap, sym}
+use mathlib.Core.Bool.{true, false}
 use mathlib.Core.List.{List}
 use Prim.Native.Nat.{ℕ}
 use native.Mathlib.Omega.{arith}
 use Rattle.model.specs.Answers.{report}
 use Rattle.programs.specs.Printing.{fitted}
-use Rattle.programs.proofs.RunLaws.{haltedWord, spentWord, halted-ending, spent-ending, answered, steps-fit, ended-is, never-counts, never-refuses}
+use Rattle.programs.proofs.RunLaws.{endWord, ending, answered, steps-fit, ended-is, never-counts, never-refuses}
 use Rattle.programs.proofs.write_run.Statement.{statement}
 use Rattle.programs.proofs.write_run.Tie as tie
 
@@ -42,7 +43,7 @@ slice-aggregate-write-ended-2 : tie.Need-slice-aggregate-write-ended-2
 slice-aggregate-write-ended-2 c = search needs
 
 write-ended-requires : tie.Need-write-ended-requires
-write-ended-requires c κs = (omega (arith, c .before .before .before .before .before .before .before .before .run .kept .1 .1 .1 .1 .0, c .before .before .before .before .before .before .before .before .before .before .before .trace-room .ensures), steps-fit (c .before .before .before .before .before .before .before .before .before .before .before .before .before .before .before .before .before .before .args .program .now) (c .before .before .before .before .before .before .before .before .before .before .before .before .before .to-image .last .1 .0) (c .before .before .before .before .before .before .before .before .run .last .1 .1 .1 .0) (c .before .before .before .before .before .before .before .before .before .before .before .trace-room .result) (c .before .before .before .before .before .before .before .before .run .last .1 .1 .1 .1 .0) (c .before .before .before .before .before .before .before .before .run .result) (report (c .before .before .before .before .before .before .before .before .before .before .before .before .before .to-image .result)) (c .before .before .before .before .before .before .before .before .before .before .before .before .before .before .before .before .before .before .pre) (c .before .before .before .before .before .before .before .before .before .before .before .before .before .to-image .ensures) (c .before .before .before .before .before .before .before .before .before .before .before .trace-room .ensures) (c .before .before .before .before .before .before .before .before .run .ensures) haltedWord (c .before .before .before .before .ran .given .0 .1 .0) (halted-ending _ _ (c .before .before .before .before .ran .given .0 .0) (c .before .before .before .before .ran .given .0 .1 .0) (sym (ap report (c .before .before .before .before .ran .given .1)) ∙ answered (c .before .before .before .before .before .before .before .before .before .before .before .before .before .before .before .before .before .before .args .program .now) (c .before .before .before .before .before .before .before .before .before .before .before .before .before .to-image .last .1 .0) (c .before .before .before .before .before .before .before .before .run .last .1 .1 .1 .0) (c .before .before .before .before .before .before .before .before .before .before .before .trace-room .result) (c .before .before .before .before .before .before .before .before .run .last .1 .1 .1 .1 .0) (c .before .before .before .before .before .before .before .before .run .result) (report (c .before .before .before .before .before .before .before .before .before .before .before .before .before .to-image .result)) (c .before .before .before .before .before .before .before .before .before .before .before .before .before .before .before .before .before .before .pre) (c .before .before .before .before .before .before .before .before .before .before .before .before .before .to-image .ensures) (c .before .before .before .before .before .before .before .before .before .before .before .trace-room .ensures) (c .before .before .before .before .before .before .before .before .run .ensures))), omega arith)
+write-ended-requires c κs = (omega (arith, c .before .before .before .before .before .before .before .before .run .kept .1 .1 .1 .1 .0, c .before .before .before .before .before .before .before .before .before .before .before .trace-room .ensures), steps-fit (c .before .before .before .before .before .before .before .before .before .before .before .before .before .before .before .before .before .before .args .program .now) (c .before .before .before .before .before .before .before .before .before .before .before .before .before .to-image .last .1 .0) (c .before .before .before .before .before .before .before .before .run .last .1 .1 .1 .0) (c .before .before .before .before .before .before .before .before .before .before .before .trace-room .result) (c .before .before .before .before .before .before .before .before .run .last .1 .1 .1 .1 .0) (c .before .before .before .before .before .before .before .before .run .result) (report (c .before .before .before .before .before .before .before .before .before .before .before .before .before .to-image .result)) (c .before .before .before .before .before .before .before .before .before .before .before .before .before .before .before .before .before .before .pre) (c .before .before .before .before .before .before .before .before .before .before .before .before .before .to-image .ensures) (c .before .before .before .before .before .before .before .before .before .before .before .trace-room .ensures) (c .before .before .before .before .before .before .before .before .run .ensures) (endWord false) (c .before .before .before .before .ran .given .0 .1 .0) (ending _ _ false (c .before .before .before .before .ran .given .0 .0) (c .before .before .before .before .ran .given .0 .1 .0) (sym (ap report (c .before .before .before .before .ran .given .1)) ∙ answered (c .before .before .before .before .before .before .before .before .before .before .before .before .before .before .before .before .before .before .args .program .now) (c .before .before .before .before .before .before .before .before .before .before .before .before .before .to-image .last .1 .0) (c .before .before .before .before .before .before .before .before .run .last .1 .1 .1 .0) (c .before .before .before .before .before .before .before .before .before .before .before .trace-room .result) (c .before .before .before .before .before .before .before .before .run .last .1 .1 .1 .1 .0) (c .before .before .before .before .before .before .before .before .run .result) (report (c .before .before .before .before .before .before .before .before .before .before .before .before .before .to-image .result)) (c .before .before .before .before .before .before .before .before .before .before .before .before .before .before .before .before .before .before .pre) (c .before .before .before .before .before .before .before .before .before .before .before .before .before .to-image .ensures) (c .before .before .before .before .before .before .before .before .before .before .before .trace-room .ensures) (c .before .before .before .before .before .before .before .before .run .ensures))), omega arith)
 
 enum-known-ran-2 : tie.Need-enum-known-ran-2
 enum-known-ran-2 c = search needs
@@ -54,7 +55,7 @@ slice-aggregate-write-ended-4 : tie.Need-slice-aggregate-write-ended-4
 slice-aggregate-write-ended-4 c = search needs
 
 write-ended-requires-2 : tie.Need-write-ended-requires-2
-write-ended-requires-2 c κs = (omega (arith, c .before .before .before .before .before .before .before .before .run .kept .1 .1 .1 .1 .0, c .before .before .before .before .before .before .before .before .before .before .before .trace-room .ensures), steps-fit (c .before .before .before .before .before .before .before .before .before .before .before .before .before .before .before .before .before .before .args .program .now) (c .before .before .before .before .before .before .before .before .before .before .before .before .before .to-image .last .1 .0) (c .before .before .before .before .before .before .before .before .run .last .1 .1 .1 .0) (c .before .before .before .before .before .before .before .before .before .before .before .trace-room .result) (c .before .before .before .before .before .before .before .before .run .last .1 .1 .1 .1 .0) (c .before .before .before .before .before .before .before .before .run .result) (report (c .before .before .before .before .before .before .before .before .before .before .before .before .before .to-image .result)) (c .before .before .before .before .before .before .before .before .before .before .before .before .before .before .before .before .before .before .pre) (c .before .before .before .before .before .before .before .before .before .before .before .before .before .to-image .ensures) (c .before .before .before .before .before .before .before .before .before .before .before .trace-room .ensures) (c .before .before .before .before .before .before .before .before .run .ensures) spentWord (c .before .before .before .before .ran2 .given .0 .1 .0) (spent-ending _ _ (c .before .before .before .before .ran2 .given .0 .0) (c .before .before .before .before .ran2 .given .0 .1 .0) (sym (ap report (c .before .before .before .before .ran2 .given .1)) ∙ answered (c .before .before .before .before .before .before .before .before .before .before .before .before .before .before .before .before .before .before .args .program .now) (c .before .before .before .before .before .before .before .before .before .before .before .before .before .to-image .last .1 .0) (c .before .before .before .before .before .before .before .before .run .last .1 .1 .1 .0) (c .before .before .before .before .before .before .before .before .before .before .before .trace-room .result) (c .before .before .before .before .before .before .before .before .run .last .1 .1 .1 .1 .0) (c .before .before .before .before .before .before .before .before .run .result) (report (c .before .before .before .before .before .before .before .before .before .before .before .before .before .to-image .result)) (c .before .before .before .before .before .before .before .before .before .before .before .before .before .before .before .before .before .before .pre) (c .before .before .before .before .before .before .before .before .before .before .before .before .before .to-image .ensures) (c .before .before .before .before .before .before .before .before .before .before .before .trace-room .ensures) (c .before .before .before .before .before .before .before .before .run .ensures))), omega arith)
+write-ended-requires-2 c κs = (omega (arith, c .before .before .before .before .before .before .before .before .run .kept .1 .1 .1 .1 .0, c .before .before .before .before .before .before .before .before .before .before .before .trace-room .ensures), steps-fit (c .before .before .before .before .before .before .before .before .before .before .before .before .before .before .before .before .before .before .args .program .now) (c .before .before .before .before .before .before .before .before .before .before .before .before .before .to-image .last .1 .0) (c .before .before .before .before .before .before .before .before .run .last .1 .1 .1 .0) (c .before .before .before .before .before .before .before .before .before .before .before .trace-room .result) (c .before .before .before .before .before .before .before .before .run .last .1 .1 .1 .1 .0) (c .before .before .before .before .before .before .before .before .run .result) (report (c .before .before .before .before .before .before .before .before .before .before .before .before .before .to-image .result)) (c .before .before .before .before .before .before .before .before .before .before .before .before .before .before .before .before .before .before .pre) (c .before .before .before .before .before .before .before .before .before .before .before .before .before .to-image .ensures) (c .before .before .before .before .before .before .before .before .before .before .before .trace-room .ensures) (c .before .before .before .before .before .before .before .before .run .ensures) (endWord true) (c .before .before .before .before .ran2 .given .0 .1 .0) (ending _ _ true (c .before .before .before .before .ran2 .given .0 .0) (c .before .before .before .before .ran2 .given .0 .1 .0) (sym (ap report (c .before .before .before .before .ran2 .given .1)) ∙ answered (c .before .before .before .before .before .before .before .before .before .before .before .before .before .before .before .before .before .before .args .program .now) (c .before .before .before .before .before .before .before .before .before .before .before .before .before .to-image .last .1 .0) (c .before .before .before .before .before .before .before .before .run .last .1 .1 .1 .0) (c .before .before .before .before .before .before .before .before .before .before .before .trace-room .result) (c .before .before .before .before .before .before .before .before .run .last .1 .1 .1 .1 .0) (c .before .before .before .before .before .before .before .before .run .result) (report (c .before .before .before .before .before .before .before .before .before .before .before .before .before .to-image .result)) (c .before .before .before .before .before .before .before .before .before .before .before .before .before .before .before .before .before .before .pre) (c .before .before .before .before .before .before .before .before .before .before .before .before .before .to-image .ensures) (c .before .before .before .before .before .before .before .before .before .before .before .trace-room .ensures) (c .before .before .before .before .before .before .before .before .run .ensures))), omega arith)
 
 enum-told : tie.Need-enum-told
 enum-told c = search needs
@@ -66,13 +67,13 @@ same-length : tie.Need-same-length
 same-length c = search needs
 
 returns : tie.Need-returns
-returns c = c .before .before .write-ended .ensures ∙ ap (λ (t : List ℕ). fitted t (c .before .before .before .before .before .before .before .before .before .before .before .before .before .before .before .before .before .before .before .before .before .args .out .now)) (ended-is (c .before .before .before .before .before .before .before .before .before .before .before .before .before .before .before .before .before .before .before .before .before .args .program .now) (c .before .before .before .before .before .before .before .before .before .before .before .before .before .before .before .before .to-image .last .1 .0) (c .before .before .before .before .before .before .before .before .before .before .before .run .last .1 .1 .1 .0) (c .before .before .before .before .before .before .before .before .before .before .before .before .before .before .trace-room .result) (c .before .before .before .before .before .before .before .before .before .before .before .run .last .1 .1 .1 .1 .0) (c .before .before .before .before .before .before .before .before .before .before .before .run .result) (report (c .before .before .before .before .before .before .before .before .before .before .before .before .before .before .before .before .to-image .result)) (c .before .before .before .before .before .before .before .before .before .before .before .before .before .before .before .before .before .before .before .before .before .pre) (c .before .before .before .before .before .before .before .before .before .before .before .before .before .before .before .before .to-image .ensures) (c .before .before .before .before .before .before .before .before .before .before .before .before .before .before .trace-room .ensures) (c .before .before .before .before .before .before .before .before .before .before .before .run .ensures) haltedWord (c .before .before .before .before .before .before .before .ran .given .0 .1 .0) (halted-ending _ _ (c .before .before .before .before .before .before .before .ran .given .0 .0) (c .before .before .before .before .before .before .before .ran .given .0 .1 .0) (sym (ap report (c .before .before .before .before .before .before .before .ran .given .1)) ∙ answered (c .before .before .before .before .before .before .before .before .before .before .before .before .before .before .before .before .before .before .before .before .before .args .program .now) (c .before .before .before .before .before .before .before .before .before .before .before .before .before .before .before .before .to-image .last .1 .0) (c .before .before .before .before .before .before .before .before .before .before .before .run .last .1 .1 .1 .0) (c .before .before .before .before .before .before .before .before .before .before .before .before .before .before .trace-room .result) (c .before .before .before .before .before .before .before .before .before .before .before .run .last .1 .1 .1 .1 .0) (c .before .before .before .before .before .before .before .before .before .before .before .run .result) (report (c .before .before .before .before .before .before .before .before .before .before .before .before .before .before .before .before .to-image .result)) (c .before .before .before .before .before .before .before .before .before .before .before .before .before .before .before .before .before .before .before .before .before .pre) (c .before .before .before .before .before .before .before .before .before .before .before .before .before .before .before .before .to-image .ensures) (c .before .before .before .before .before .before .before .before .before .before .before .before .before .before .trace-room .ensures) (c .before .before .before .before .before .before .before .before .before .before .before .run .ensures))))
+returns c = c .before .before .write-ended .ensures ∙ ap (λ (t : List ℕ). fitted t (c .before .before .before .before .before .before .before .before .before .before .before .before .before .before .before .before .before .before .before .before .before .args .out .now)) (ended-is (c .before .before .before .before .before .before .before .before .before .before .before .before .before .before .before .before .before .before .before .before .before .args .program .now) (c .before .before .before .before .before .before .before .before .before .before .before .before .before .before .before .before .to-image .last .1 .0) (c .before .before .before .before .before .before .before .before .before .before .before .run .last .1 .1 .1 .0) (c .before .before .before .before .before .before .before .before .before .before .before .before .before .before .trace-room .result) (c .before .before .before .before .before .before .before .before .before .before .before .run .last .1 .1 .1 .1 .0) (c .before .before .before .before .before .before .before .before .before .before .before .run .result) (report (c .before .before .before .before .before .before .before .before .before .before .before .before .before .before .before .before .to-image .result)) (c .before .before .before .before .before .before .before .before .before .before .before .before .before .before .before .before .before .before .before .before .before .pre) (c .before .before .before .before .before .before .before .before .before .before .before .before .before .before .before .before .to-image .ensures) (c .before .before .before .before .before .before .before .before .before .before .before .before .before .before .trace-room .ensures) (c .before .before .before .before .before .before .before .before .before .before .before .run .ensures) (endWord false) (c .before .before .before .before .before .before .before .ran .given .0 .1 .0) (ending _ _ false (c .before .before .before .before .before .before .before .ran .given .0 .0) (c .before .before .before .before .before .before .before .ran .given .0 .1 .0) (sym (ap report (c .before .before .before .before .before .before .before .ran .given .1)) ∙ answered (c .before .before .before .before .before .before .before .before .before .before .before .before .before .before .before .before .before .before .before .before .before .args .program .now) (c .before .before .before .before .before .before .before .before .before .before .before .before .before .before .before .before .to-image .last .1 .0) (c .before .before .before .before .before .before .before .before .before .before .before .run .last .1 .1 .1 .0) (c .before .before .before .before .before .before .before .before .before .before .before .before .before .before .trace-room .result) (c .before .before .before .before .before .before .before .before .before .before .before .run .last .1 .1 .1 .1 .0) (c .before .before .before .before .before .before .before .before .before .before .before .run .result) (report (c .before .before .before .before .before .before .before .before .before .before .before .before .before .before .before .before .to-image .result)) (c .before .before .before .before .before .before .before .before .before .before .before .before .before .before .before .before .before .before .before .before .before .pre) (c .before .before .before .before .before .before .before .before .before .before .before .before .before .before .before .before .to-image .ensures) (c .before .before .before .before .before .before .before .before .before .before .before .before .before .before .trace-room .ensures) (c .before .before .before .before .before .before .before .before .before .before .before .run .ensures))))
 
 same-length-2 : tie.Need-same-length-2
 same-length-2 c = search needs
 
 returns-2 : tie.Need-returns-2
-returns-2 c = c .before .before .write-ended2 .ensures ∙ ap (λ (t : List ℕ). fitted t (c .before .before .before .before .before .before .before .before .before .before .before .before .before .before .before .before .before .before .before .before .before .args .out .now)) (ended-is (c .before .before .before .before .before .before .before .before .before .before .before .before .before .before .before .before .before .before .before .before .before .args .program .now) (c .before .before .before .before .before .before .before .before .before .before .before .before .before .before .before .before .to-image .last .1 .0) (c .before .before .before .before .before .before .before .before .before .before .before .run .last .1 .1 .1 .0) (c .before .before .before .before .before .before .before .before .before .before .before .before .before .before .trace-room .result) (c .before .before .before .before .before .before .before .before .before .before .before .run .last .1 .1 .1 .1 .0) (c .before .before .before .before .before .before .before .before .before .before .before .run .result) (report (c .before .before .before .before .before .before .before .before .before .before .before .before .before .before .before .before .to-image .result)) (c .before .before .before .before .before .before .before .before .before .before .before .before .before .before .before .before .before .before .before .before .before .pre) (c .before .before .before .before .before .before .before .before .before .before .before .before .before .before .before .before .to-image .ensures) (c .before .before .before .before .before .before .before .before .before .before .before .before .before .before .trace-room .ensures) (c .before .before .before .before .before .before .before .before .before .before .before .run .ensures) spentWord (c .before .before .before .before .before .before .before .ran2 .given .0 .1 .0) (spent-ending _ _ (c .before .before .before .before .before .before .before .ran2 .given .0 .0) (c .before .before .before .before .before .before .before .ran2 .given .0 .1 .0) (sym (ap report (c .before .before .before .before .before .before .before .ran2 .given .1)) ∙ answered (c .before .before .before .before .before .before .before .before .before .before .before .before .before .before .before .before .before .before .before .before .before .args .program .now) (c .before .before .before .before .before .before .before .before .before .before .before .before .before .before .before .before .to-image .last .1 .0) (c .before .before .before .before .before .before .before .before .before .before .before .run .last .1 .1 .1 .0) (c .before .before .before .before .before .before .before .before .before .before .before .before .before .before .trace-room .result) (c .before .before .before .before .before .before .before .before .before .before .before .run .last .1 .1 .1 .1 .0) (c .before .before .before .before .before .before .before .before .before .before .before .run .result) (report (c .before .before .before .before .before .before .before .before .before .before .before .before .before .before .before .before .to-image .result)) (c .before .before .before .before .before .before .before .before .before .before .before .before .before .before .before .before .before .before .before .before .before .pre) (c .before .before .before .before .before .before .before .before .before .before .before .before .before .before .before .before .to-image .ensures) (c .before .before .before .before .before .before .before .before .before .before .before .before .before .before .trace-room .ensures) (c .before .before .before .before .before .before .before .before .before .before .before .run .ensures))))
+returns-2 c = c .before .before .write-ended2 .ensures ∙ ap (λ (t : List ℕ). fitted t (c .before .before .before .before .before .before .before .before .before .before .before .before .before .before .before .before .before .before .before .before .before .args .out .now)) (ended-is (c .before .before .before .before .before .before .before .before .before .before .before .before .before .before .before .before .before .before .before .before .before .args .program .now) (c .before .before .before .before .before .before .before .before .before .before .before .before .before .before .before .before .to-image .last .1 .0) (c .before .before .before .before .before .before .before .before .before .before .before .run .last .1 .1 .1 .0) (c .before .before .before .before .before .before .before .before .before .before .before .before .before .before .trace-room .result) (c .before .before .before .before .before .before .before .before .before .before .before .run .last .1 .1 .1 .1 .0) (c .before .before .before .before .before .before .before .before .before .before .before .run .result) (report (c .before .before .before .before .before .before .before .before .before .before .before .before .before .before .before .before .to-image .result)) (c .before .before .before .before .before .before .before .before .before .before .before .before .before .before .before .before .before .before .before .before .before .pre) (c .before .before .before .before .before .before .before .before .before .before .before .before .before .before .before .before .to-image .ensures) (c .before .before .before .before .before .before .before .before .before .before .before .before .before .before .trace-room .ensures) (c .before .before .before .before .before .before .before .before .before .before .before .run .ensures) (endWord true) (c .before .before .before .before .before .before .before .ran2 .given .0 .1 .0) (ending _ _ true (c .before .before .before .before .before .before .before .ran2 .given .0 .0) (c .before .before .before .before .before .before .before .ran2 .given .0 .1 .0) (sym (ap report (c .before .before .before .before .before .before .before .ran2 .given .1)) ∙ answered (c .before .before .before .before .before .before .before .before .before .before .before .before .before .before .before .before .before .before .before .before .before .args .program .now) (c .before .before .before .before .before .before .before .before .before .before .before .before .before .before .before .before .to-image .last .1 .0) (c .before .before .before .before .before .before .before .before .before .before .before .run .last .1 .1 .1 .0) (c .before .before .before .before .before .before .before .before .before .before .before .before .before .before .trace-room .result) (c .before .before .before .before .before .before .before .before .before .before .before .run .last .1 .1 .1 .1 .0) (c .before .before .before .before .before .before .before .before .before .before .before .run .result) (report (c .before .before .before .before .before .before .before .before .before .before .before .before .before .before .before .before .to-image .result)) (c .before .before .before .before .before .before .before .before .before .before .before .before .before .before .before .before .before .before .before .before .before .pre) (c .before .before .before .before .before .before .before .before .before .before .before .before .before .before .before .before .to-image .ensures) (c .before .before .before .before .before .before .before .before .before .before .before .before .before .before .trace-room .ensures) (c .before .before .before .before .before .before .before .before .before .before .before .run .ensures))))
 
 returns-3 : tie.Need-returns-3
 returns-3 c = absurd (never-counts (c .before .before .before .before .before .before .before .before .before .before .before .before .before .before .args .program .now) (c .before .before .before .before .before .before .before .before .before .to-image .last .1 .0) (c .before .before .before .before .run .last .1 .1 .1 .0) (c .before .before .before .before .before .before .before .trace-room .result) (c .before .before .before .before .run .last .1 .1 .1 .1 .0) (c .before .before .before .before .run .result) (report (c .before .before .before .before .before .before .before .before .before .to-image .result)) (c .before .before .before .before .before .before .before .before .before .before .before .before .before .before .pre) (c .before .before .before .before .before .before .before .before .before .to-image .ensures) (c .before .before .before .before .before .before .before .trace-room .ensures) (c .before .before .before .before .run .ensures) (c .enum-told .given .0 .0) (ap report (c .enum-told .given .1)))

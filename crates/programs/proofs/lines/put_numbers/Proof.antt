@@ -1,7 +1,6 @@
 -- `programs::lines::put_numbers` meets its contract: the first number, then what is left of the others, each after a comma.
 -- Assumes nothing.
 use Prim.Native.Nat.{_+_, _-_, _*_, _≤_}
-use mathlib.Core.Path.{refl}
 use native.Mathlib.Omega.{arith}
 use borrow.Author.Needs.{needs}
 use lib.ListN.{length, drop}

@@ -1,6 +1,6 @@
 -- `programs::lines::put_rows` meets its contract: the rows that are left always give the text of all. Assumes nothing.
 use Prim.Native.Nat.{_+_, _-_, _*_, _/_, _≤_}
-use mathlib.Core.Path.{ap, sym}
+use mathlib.Core.Path.{ap}
 use native.Mathlib.Omega.{arith}
 use borrow.Author.Needs.{needs}
 use lib.ListN.{length, drop}
@@ -8,7 +8,7 @@ use Rattle.model.specs.Limits.{rowWidth}
 use Rattle.model.specs.Programs.{numbersText}
 use Rattle.text.proofs.WroteLaws.{as-text}
 use Rattle.programs.specs.Printing.{rowsText}
-use Rattle.programs.proofs.LeftLaws.{Left, left-all, left-next, left-none}
+use Rattle.programs.proofs.LeftLaws.{Left, left-next, left-none}
 use Rattle.programs.proofs.LineTexts.{row-part, row-length, rows-first, rows-next, rows-end}
 use Rattle.programs.proofs.lines.put_rows.Statement.{statement}
 use Rattle.programs.proofs.lines.put_rows.Tie as tie

@@ -1,6 +1,5 @@
 -- `programs::lines::put_word` meets its contract: what is left of the word always gives the whole. Assumes nothing.
 use Prim.Native.Nat.{_+_, _-_, _≤_}
-use mathlib.Core.Path.{refl}
 use native.Mathlib.Omega.{arith}
 use borrow.Author.Needs.{needs}
 use lib.ListN.{length, drop}

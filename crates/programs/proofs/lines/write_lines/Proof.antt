@@ -1,6 +1,5 @@
 -- `programs::lines::write_lines` meets its contract: printed into an empty part the text leaves nothing and gives its length.
 -- Assumes nothing.
-use native.Mathlib.Omega.{arith}
 use borrow.Author.Needs.{needs}
 use Rattle.programs.specs.Printing.{linesText}
 use Rattle.programs.proofs.LeftLaws.{measured-no-room, measured-fits}
