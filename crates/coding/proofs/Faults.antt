@@ -1,19 +1,17 @@
 -- The fault of six stored numbers as a chain of tests, in the order of the conditions: by cases on the tests' outcomes.
 -- Assumes nothing.
-use mathlib.Core.Path.{_≡_, refl, sym, subst, _∙_}
-use mathlib.Core.Logic.{⊎-elim}
+use mathlib.Core.Path.{_≡_, refl, _∙_}
 use mathlib.Core.Bool.{Bool, true, false, cond, not, _&&_}
 use mathlib.Core.List.{[], _∷_}
 use mathlib.Core.Option.{none, some}
-use Prim.Native.Nat.{ℕ, zero, suc, _-_, _/_, _%_, _<_}
-use native.Mathlib.Nat.{eq-or-lt-of-le, le-of-suc-le-suc, not-suc-le-zero}
+use Prim.Native.Nat.{ℕ, _-_, _/_, _%_, _<_}
 use lib.Dec.{ltb}
 use borrow.Author.Tests.{lt-ltb}
 use Rattle.model.specs.declared.Operand.the-variants.{Empty, Literal, Register, Cell, PublicCell, SensitiveCell, TableCell}
 use Rattle.model.specs.Lines.{filled, fills, isLiteral}
 use Rattle.model.specs.Stored.{literals, registers, cells, publics, sensitives, tables, marks, opcodes, operands, targets}
 use Rattle.model.specs.Stored.{opcodeOf, operandOf, Field, numbers, wrong, orWrong, sameFilled, parsed, parsedNumbers, fault}
-use Rattle.coding.specs.Fields.{shape, inRange}
+use Rattle.coding.specs.Fields.{inRange}
 
 -- ---- a literal's number
 
@@ -34,21 +32,6 @@ unfolding operandOf
 literal-number n =
     first-form (ltb n literals) (ltb n registers) (ltb n cells) (ltb n publics) (ltb n sensitives) (ltb n tables) (n - literals) (n - registers) (n - cells)
     ((n - publics) / 128) ((n - publics) % 128) ((n - sensitives) / 128) ((n - sensitives) % 128) ((n - tables) / 256) ((n - tables) % 256)
-
--- ---- the fields that an opcode fills, one opcode after the other
-
-abbrev Each : (ℕ → Type 0) → ℕ → Type 0
-Each P zero = Unit
-Each P (suc n) = Each P n × P n
-
-each-at : (P : ℕ → Type 0) (n k : ℕ) → Each P n → k < n → P k
-each-at P zero k e h = absurd (not-suc-le-zero h)
-each-at P (suc n) k e h = ⊎-elim (λ q. subst P (sym q) (e .1)) (λ l. each-at P n k (e .0) l) (eq-or-lt-of-le (le-of-suc-le-suc h))
-
-pub opcode-shape : (o : ℕ) → o < opcodes → fills (opcodeOf o) ≡ shape o
-unfolding fills
-opcode-shape o h = each-at (λ o. fills (opcodeOf o) ≡ shape o) opcodes o
-    (((((((((((((tt, refl), refl), refl), refl), refl), refl), refl), refl), refl), refl), refl), refl), refl) h
 
 -- ---- the chain
 
@@ -89,7 +72,7 @@ chain m o d a b t =
     fields-fault m o d a b t (ltb 0 m) (ltb 0 o) (ltb 0 d) (ltb 0 a) (ltb 0 b) (ltb 0 t)
     (ltb m marks) (ltb o opcodes) (ltb d operands) (ltb a operands) (ltb b operands) (ltb t targets)
 
--- an opcode's number in range: the shape by its number
+-- mark and opcode in range: 5, then 6
 pub shaped-chain : (m o d a b t : ℕ) → m < marks → o < opcodes
-    → fault (parsedNumbers m o d a b t) ≡ cond (sameFilled (shape o) (filled (ltb 0 d) (ltb 0 a) (ltb 0 b) (ltb 0 t))) (cond (inRange d a b t) 0 6) 5
-shaped-chain m o d a b t h k = chain m o d a b t ∙ rw (lt-ltb m marks h, lt-ltb o opcodes k, opcode-shape o k)
+    → fault (parsedNumbers m o d a b t) ≡ cond (sameFilled (fills (opcodeOf o)) (filled (ltb 0 d) (ltb 0 a) (ltb 0 b) (ltb 0 t))) (cond (inRange d a b t) 0 6) 5
+shaped-chain m o d a b t h k = chain m o d a b t ∙ rw (lt-ltb m marks h, lt-ltb o opcodes k)

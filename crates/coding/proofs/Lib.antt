@@ -3,3 +3,4 @@ pub mod Numbers
 pub mod Faults
 pub mod Programs
 pub mod Codes
+pub mod Shapes

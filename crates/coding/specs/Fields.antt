@@ -1,12 +1,12 @@
--- The numbers at a line of a store, and conditions 5 and 6 as tests on them. That the tests are the model's is shown in proofs/Faults.
+-- The numbers at a line of a store, and conditions 5 and 6 as tests on them. That the tests are the model's is shown in proofs/Shapes and proofs/Faults.
 -- Assumes nothing.
-use mathlib.Core.Bool.{Bool, true, false, cond, not, _&&_}
+use mathlib.Core.Bool.{Bool, cond, not, _&&_}
 use mathlib.Core.List.{List, [], _∷_}
 use Prim.Native.Nat.{ℕ, _+_, _*_}
-use lib.Dec.{leb, ltb, eqb}
+use lib.Dec.{ltb, eqb}
 use lib.ListN.{getD}
 use Rattle.model.specs.Limits.{lineWidth}
-use Rattle.model.specs.Lines.{Filled, filled, isLiteral}
+use Rattle.model.specs.Lines.{isLiteral}
 use Rattle.model.specs.Stored.{operandOf, operands, targets}
 
 -- the six numbers at line i
@@ -15,16 +15,19 @@ numbersAt p i =
     getD p (lineWidth * i) 0 ∷ getD p (lineWidth * i + 1) 0 ∷ getD p (lineWidth * i + 2) 0 ∷ getD p (lineWidth * i + 3) 0
     ∷ getD p (lineWidth * i + 4) 0 ∷ getD p (lineWidth * i + 5) 0 ∷ []
 
--- not to mul have a destination; jmp, beq and bne a target
-abbrev pub hasDestination : ℕ → Bool
-hasDestination o = cond (leb 2 o) (leb o 10) false
+-- w where a field is filled
+unfoldable pub bitOf : ℕ → Bool → ℕ
+bitOf w t = cond t w 0
 
-abbrev pub hasTarget : ℕ → Bool
-hasTarget o = cond (eqb o 1) true (leb 11 o)
-
--- the fields that the opcode of number o fills
-abbrev pub shape : ℕ → Filled
-shape o = filled (hasDestination o) (leb 2 o) (leb 4 o) (hasTarget o)
+-- which of destination, first, second and target the opcode of number o fills, as four bits
+unfoldable pub shapeOf : ℕ → ℕ
+shapeOf o =
+    cond (eqb o 0) 0
+    (cond (eqb o 1) 1
+    (cond (ltb o 4) 12
+    (cond (ltb o 11) 14
+    (cond (ltb o 13) 7
+    0))))
 
 -- operands and target are numbers of such, and the destination's is no literal's
 abbrev pub inRange : ℕ → ℕ → ℕ → ℕ → Bool

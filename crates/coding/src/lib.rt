@@ -1,16 +1,17 @@
-// Stored programs: six numbers to a line and back, conditions 3 to 6 of six numbers, and the check of a whole program (7, 3 to 6).
-// Decoding is total: every number gives some field, and the check says whether the numbers are a line.
+// What lines and bits are as numbers. Stored programs: six numbers to a line and back, conditions 3 to 6 of six numbers, and the check
+// of a whole program (7, 3 to 6). Decoding is total: every number gives some field, and the check says whether the numbers are a
+// line. Last the dual-rail code of a bit.
 ghost use mathlib.Core.Path.{_≡_};
 ghost use mathlib.Core.List.{map};
-ghost use Prim.Native.Nat.{_%_};
-ghost use lib.Dec.{ltb};
+ghost use Prim.Native.Nat.{_%_, _≤_};
 ghost use lib.ListN.{getD};
 ghost use Rattle.model.specs.Answers.{report};
-ghost use Rattle.model.specs.Lines.{filled, isLiteral};
+ghost use Rattle.model.specs.Code.{code};
+ghost use Rattle.model.specs.Lines.{filled, fills, isLiteral};
 ghost use Rattle.model.specs.Stored.{markOf, opcodeOf, operandOf, targetOf, lineOf, lineAt};
 ghost use Rattle.model.specs.Stored.{markCode, opcodeCode, operandCode, targetCode, codes};
 ghost use Rattle.model.specs.Stored.{sameFilled, parsedNumbers, fault, faultAt, programCheck};
-ghost use Rattle.coding.specs.Fields.{numbersAt, hasDestination, hasTarget, shape, inRange};
+ghost use Rattle.coding.specs.Fields.{numbersAt, bitOf, shapeOf, inRange};
 use model::Answer;
 use model::Line;
 use model::Mark;
@@ -187,7 +188,7 @@ fn low(n: u32) -> u16
     (n % 65536) as u16
 }
 
-fn mark_code(mark: Mark) -> u16
+pub fn mark_code(mark: Mark) -> u16
     ensures { λ r. ⌜ r ≡ markCode mark ⌝ }
 {
     match mark {
@@ -196,7 +197,7 @@ fn mark_code(mark: Mark) -> u16
     }
 }
 
-fn opcode_code(opcode: Opcode) -> u16
+pub fn opcode_code(opcode: Opcode) -> u16
     ensures { λ r. ⌜ r ≡ opcodeCode opcode ⌝ }
 {
     match opcode {
@@ -265,32 +266,37 @@ pub fn encode(line: Line) -> [u16; LINE_WIDTH]
     ]
 }
 
-fn has_destination(o: u16) -> bool
-    ensures { λ r. ⌜ r ≡ hasDestination o ⌝ }
+// w where a field is filled.
+fn bit(w: u8, filled: bool) -> u8
+    ensures { λ r. ⌜ (r ≡ bitOf w filled) × (r ≤ w) ⌝ }
 {
-    if 2 <= o { o <= 10 } else { false }
+    if filled { w } else { 0 }
 }
 
-fn has_target(o: u16) -> bool
-    ensures { λ r. ⌜ r ≡ hasTarget o ⌝ }
+// Which of destination, first, second and target the opcode of number o fills, as four bits.
+fn shape(o: u16) -> u8
+    ensures { λ r. ⌜ r ≡ shapeOf o ⌝ }
 {
-    if o == 1 { true } else { 11 <= o }
+    if o == 0 {
+        return 0;
+    }
+    if o == 1 {
+        return 1;
+    }
+    if o < 4 {
+        return 12;
+    }
+    if o < 11 {
+        return 14;
+    }
+    if o < OPCODES { 7 } else { 0 }
 }
 
-// Whether the fields after opcode o are filled as it asks.
-fn is_shaped(o: u16, d: u16, a: u16, b: u16, t: u16) -> bool
-    ensures { λ r. ⌜ r ≡ sameFilled (shape o) (filled (ltb 0 d) (ltb 0 a) (ltb 0 b) (ltb 0 t)) ⌝ }
+// Whether the fields after the opcode of number o are filled just where it fills them.
+pub fn is_shaped(o: u16, d: bool, a: bool, b: bool, t: bool) -> bool
+    ensures { λ r. ⌜ r ≡ sameFilled (fills (opcodeOf o)) (filled d a b t) ⌝ }
 {
-    if has_destination(o) != (0 < d) {
-        return false;
-    }
-    if (2 <= o) != (0 < a) {
-        return false;
-    }
-    if (4 <= o) != (0 < b) {
-        return false;
-    }
-    has_target(o) == (0 < t)
+    bit(8, d) + bit(4, a) + bit(2, b) + bit(1, t) == shape(o)
 }
 
 // Whether an operand's number is a literal's.
@@ -333,7 +339,7 @@ pub fn fault_of(m: u16, o: u16, d: u16, a: u16, b: u16, t: u16) -> u8
     if OPCODES <= o {
         return 4;
     }
-    if is_shaped(o, d, a, b, t) {
+    if is_shaped(o, 0 < d, 0 < a, 0 < b, 0 < t) {
         if is_in_range(d, a, b, t) {
             return 0;
         }
@@ -372,4 +378,11 @@ pub fn check_program(program: &[u16]) -> Answer
         i += 1;
     }
     Answer::Count(count as u32)
+}
+
+// Bit 1 is 01, bit 0 is 10.
+pub fn code_of(bit: u8) -> u8
+    ensures { λ r. ⌜ r ≡ code bit ⌝ }
+{
+    if bit == 0 { 2 } else { 1 }
 }

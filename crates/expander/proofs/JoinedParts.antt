@@ -7,17 +7,14 @@ use native.Mathlib.Numerals.{add-one}
 use native.Mathlib.Omega.{arith}
 use lib.ListN.{length, getD, take, drop, length-append}
 use lib.Seq.{take-all}
-use Rattle.model.specs.declared.Mark.the-variants.{Unmarked, Marked}
 use Rattle.model.specs.declared.Line.{Line}
 use Rattle.model.specs.Stored.{lineCount, lineAt, lines}
-use Rattle.model.specs.Expansion.{coded, macro, part, retarget, start, joined}
+use Rattle.model.specs.Expansion.{part, start, joined}
 use Rattle.model.proofs.Parts.{part-size}
 use Rattle.model.proofs.StoredLaws.{drop-line, length-lines}
 use Rattle.model.proofs.ExpansionLaws.{start-within}
-use Rattle.expander.specs.Macros.{codedLine, Numbered}
-use Rattle.expander.specs.Writes.{encoded, put}
-use Rattle.expander.proofs.PartSizes.{plain-part, marked-part}
-use Rattle.expander.proofs.StoreWrites.{put-none, put-put, put-length}
+use Rattle.expander.specs.Writes.{put}
+use Rattle.expander.proofs.StoreWrites.{put-none, put-then, put-length}
 
 joined-next : (f : ℕ → ℕ) (p r : List Line) (l : Line) (i : ℕ) → drop i p ≡ l ∷ r → joined f (take (suc i) p) ≡ joined f (take i p) ++ part f l
 unfolding joined
@@ -43,40 +40,16 @@ module _ (p out : List ℕ) (f : ℕ → ℕ) (room : 6 * start (lines p) (lineC
   most i = start-within (lines p) i (lineCount p) (sym (length-lines p))
 
   -- a part put after the parts before it
-  pub next-part : (o o′ : List ℕ) (i at : ℕ) (l : Line) → i < lineCount p → o ≡ put out 0 (joined f (take i (lines p))) → at ≡ start (lines p) i → l ≡ lineAt p i
-      → o′ ≡ put o at (part f l) → o′ ≡ put out 0 (joined f (take (i + 1) (lines p)))
-  next-part o o′ i at l h e q w z =
+  pub next-part : (o o′ : List ℕ) (i at : ℕ) → i < lineCount p → o ≡ put out 0 (joined f (take i (lines p))) → at ≡ start (lines p) i
+      → o′ ≡ put o at (part f (lineAt p i)) → o′ ≡ put out 0 (joined f (take (i + 1) (lines p)))
+  next-part o o′ i at h e q z =
       let before : List Line = joined f (take i (lines p)) in
-      let n : 0 + length before ≡ at = omega (arith, joined-length f (lines p) i) in
-      let r : put (put out 0 before) (0 + length before) (part f l) ≡ put out 0 (before ++ part f l) = put-put out 0 before (part f l) (omega (arith, most i, room)) in
-      let t : joined f (take (suc i) (lines p)) ≡ before ++ part f l = joined-next f (lines p) (drop (i + 1) (lines p)) l i (rw w (drop-line p i h)) in
-      rw (z, e, add-one i, t) (rw n at r)
+      let n : at ≡ 0 + length before = omega (arith, joined-length f (lines p) i) in
+      let t : joined f (take (suc i) (lines p)) ≡ before ++ part f (lineAt p i) = joined-next f (lines p) (drop (i + 1) (lines p)) (lineAt p i) i (drop-line p i h) in
+      rw (add-one i, t) (put-then out o o′ 0 at before (part f (lineAt p i)) (omega (arith, most i, room)) n e z)
 
   pub parts-long : (o : List ℕ) (i : ℕ) → o ≡ put out 0 (joined f (take i (lines p))) → length o ≡ length out
   parts-long o i e = ap length e ∙ put-length out 0 (joined f (take i (lines p))) (omega (arith, joined-length f (lines p) i, most i, room))
 
   pub all-parts : (o : List ℕ) (i : ℕ) → lineCount p ≤ i → o ≡ put out 0 (joined f (take i (lines p))) → o ≡ put out 0 (joined f (lines p))
   all-parts o i h e = rw (e, take-all i (lines p) (omega (arith, length-lines p)))
-
--- ---- a line's part, by its mark
-
-module _ (f : ℕ → ℕ) (l : Line) (out o : List ℕ) (at : ℕ) where
-  pub plain-put : (r : Line) → l .mark ≡ Unmarked → r ≡ retarget f l → o ≡ put out at (r ∷ []) → o ≡ put out at (part f l)
-  plain-put r e q w = rw (plain-part l f e, ← q) w
-
-  pub marked-put : l .mark ≡ Marked → o ≡ put out at (macro (l .opcode) (l .destination) (coded (l .first)) (coded (l .second))) → o ≡ put out at (part f l)
-  marked-put e w = rw (marked-part l f e) w
-
--- the numbers of the operands of a line whose arguments are coded
-module _ (n : List ℕ) (l c : Line) (e : n ≡ encoded c) (q : c ≡ codedLine l) where
-  six : n ≡ encoded (codedLine l)
-  six = e ∙ ap encoded q
-
-  pub number-of-destination : Numbered (getD n 2 0) (l .destination)
-  number-of-destination = ap (λ (m : List ℕ). getD m 2 0) six
-
-  pub number-of-first : Numbered (getD n 3 0) (coded (l .first))
-  number-of-first = ap (λ (m : List ℕ). getD m 3 0) six
-
-  pub number-of-second : Numbered (getD n 4 0) (coded (l .second))
-  number-of-second = ap (λ (m : List ℕ). getD m 4 0) six

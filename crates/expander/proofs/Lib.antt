@@ -1,8 +1,9 @@
 pub mod KindTests
 pub mod MarkWalk
-pub mod PieceLines
+pub mod PartNumbers
 pub mod PartSizes
 pub mod StoreWrites
+pub mod PieceWrites
 pub mod StartTable
 pub mod JoinedParts
 pub mod Outcomes

@@ -28,14 +28,14 @@ bad-at : (n i : ℕ) (ls r : List Line) (l : Line) → drop i ls ≡ l ∷ r →
 unfolding firstBad
 bad-at n i ls r l e = rw e
 
-module _ (p : List ℕ) (n i x : ℕ) (l : Line) (h : i < lineCount p) (q : l ≡ lineAt p i) (e : x ≡ markFault n l) where
+module _ (p : List ℕ) (n i x : ℕ) (h : i < lineCount p) (e : x ≡ markFault n (lineAt p i)) where
   rest : Report
   rest = firstBad n (i + 1) (drop (i + 1) (lines p))
 
   at-line : firstBad n i (drop i (lines p)) ≡ cond (eqb x 0) rest (refused x i)
   unfolding rest
   at-line =
-      bad-at n i (lines p) (drop (i + 1) (lines p)) l (drop-line p i h ∙ ap (λ (y : Line). y ∷ drop (i + 1) (lines p)) (sym q))
+      bad-at n i (lines p) (drop (i + 1) (lines p)) (lineAt p i) (drop-line p i h)
       ∙ ap (λ (k : ℕ). cond (eqb k 0) rest (refused k i)) (sym e)
 
   pub passes : x ≡ 0 → firstBad n (i + 1) (drop (i + 1) (lines p)) ≡ firstBad n i (drop i (lines p))

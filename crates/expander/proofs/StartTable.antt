@@ -23,8 +23,8 @@ unfolding start
 start-zero [] = refl
 start-zero (l ∷ p) = refl
 
-pub start-next : (p : List ℕ) (i sum x : ℕ) (l : Line) → i < lineCount p → sum ≡ start (lines p) i → l ≡ lineAt p i → x ≡ size l → sum + x ≡ start (lines p) (i + 1)
-start-next p i sum x l h e q w = rw (add-one i, start-suc (lines p) i (lineAt p i) (get-line p i h), e, w, q)
+pub start-next : (p : List ℕ) (i sum x : ℕ) → i < lineCount p → sum ≡ start (lines p) i → x ≡ size (lineAt p i) → sum + x ≡ start (lines p) (i + 1)
+start-next p i sum x h e w = rw (add-one i, start-suc (lines p) i (lineAt p i) (get-line p i h), e, w)
 
 pub starts-none : (s : List ℕ) (p : List Line) → 0 < length s → Starts (set s 0 0) p 0
 unfolding Starts

@@ -13,7 +13,6 @@ use Rattle.model.specs.Stored.{codes}
 use Rattle.model.proofs.TestLaws.{is-true}
 use Rattle.model.specs.Lines.{AllCorrect}
 use Rattle.coding.proofs.Codes.{codes-fit}
-use Rattle.expander.specs.Macros.{Shows}
 use Rattle.expander.specs.Writes.{encoded, put}
 
 stored-length : (ls : List Line) → length (flatMap encoded ls) ≡ 6 * length ls
@@ -37,13 +36,12 @@ six : (t : List ℕ) (k a b c d e f : ℕ) → k + 6 ≤ length t
     → set (set (set (set (set (set t k a) (k + 1) b) (k + 2) c) (k + 3) d) (k + 4) e) (k + 5) f ≡ take k t ++ (a ∷ b ∷ c ∷ d ∷ e ∷ f ∷ []) ++ drop (k + 6) t
 six t k a b c d e f h = rw (add-one k, add-two k, add-three k, add-four k, add-five k) (sets-eq (a ∷ b ∷ c ∷ d ∷ e ∷ f ∷ []) t k h)
 
-pub one-line : (out n : List ℕ) (at : ℕ) (l : Line) → n ≡ encoded l → 6 * at + 6 ≤ length out
-    → set (set (set (set (set (set out (6 * at) (getD n 0 0)) (6 * at + 1) (getD n 1 0)) (6 * at + 2) (getD n 2 0)) (6 * at + 3) (getD n 3 0)) (6 * at + 4) (getD n 4 0)) (6 * at + 5) (getD n 5 0)
-    ≡ put out at (l ∷ [])
+pub one-line : (out : List ℕ) (at m o d a b t : ℕ) (l : Line) → m ∷ o ∷ d ∷ a ∷ b ∷ t ∷ [] ≡ encoded l → 6 * (at + 1) ≤ length out
+    → set (set (set (set (set (set out (6 * at) m) (6 * at + 1) o) (6 * at + 2) d) (6 * at + 3) a) (6 * at + 4) b) (6 * at + 5) t ≡ put out at (l ∷ [])
 unfolding put flatMap
-one-line out n at l e h =
+one-line out at m o d a b t l e h =
     let q : 6 * (at + 1) ≡ 6 * at + 6 = omega arith in
-    rw (e, q) (six out (6 * at) _ _ _ _ _ _ h)
+    rw (← e, q) (six out (6 * at) m o d a b t (omega arith))
 
 pub put-none : (out : List ℕ) (k : ℕ) → put out k [] ≡ out
 unfolding put flatMap
@@ -82,26 +80,7 @@ put-put out k a b h =
     (sym (drop-drop (6 * length b) m (x ++ drop m out)) ∙ ap (drop (6 * length b)) g ∙ drop-drop (6 * length b) m out)
     ∙ regroup (take (6 * k) out) (flatMap encoded a) (flatMap encoded b) _)
 
--- ---- one line of some lines after the other
-
-take-next : (ls : List Line) (j : ℕ) (l : Line) → getElem? ls j ≡ some l → take (suc j) ls ≡ take j ls ++ l ∷ []
-take-next [] j l e = let z : _≡_ {A = ℕ} 0 1 = cc in absurd (omega arith)
-take-next (x ∷ ls) zero l e = let q : x ≡ l = cc in rw q
-take-next (x ∷ ls) (suc j) l e = ap (λ (r : List Line). x ∷ r) (take-next ls j l e)
-
--- the line at a number
-with-line : {P : Type 0} (ls : List Line) (j : ℕ) → j < length ls → ((l : Line) → getElem? ls j ≡ some l → P) → P
-with-line [] j h f = absurd (omega arith)
-with-line (x ∷ ls) zero h f = f x refl
-with-line (x ∷ ls) (suc j) h f = with-line ls j (omega arith) f
-
-module _ (out o : List ℕ) (at : ℕ) (ls : List Line) (h : 6 * (at + length ls) ≤ length out) where
-  pub next-line : (o′ r : List ℕ) (j : ℕ) → j < length ls → o ≡ put out at (take j ls) → Shows r ls j → ((l : Line) → r ≡ encoded l → o′ ≡ put o (at + j) (l ∷ []))
-      → o′ ≡ put out at (take (j + 1) ls)
-  next-line o′ r j g e s w = with-line ls j g (λ l q.
-      let n : length (take j ls) ≡ j = length-take-le j ls (omega arith) in
-      let p : put (put out at (take j ls)) (at + length (take j ls)) (l ∷ []) ≡ put out at (take j ls ++ l ∷ []) = put-put out at (take j ls) (l ∷ []) (omega arith) in
-      rw (w l (s l q), e, add-one j, take-next ls j l q) (rw n at p))
-
-  pub all-lines : (j : ℕ) → length ls ≤ j → o ≡ put out at (take j ls) → o ≡ put out at ls
-  all-lines j g e = rw (e, take-all j ls g)
+-- some lines after others, each put by itself
+pub put-then : (out o o′ : List ℕ) (at k : ℕ) (a b : List Line) → 6 * (at + length a) ≤ length out → k ≡ at + length a → o ≡ put out at a → o′ ≡ put o k b
+    → o′ ≡ put out at (a ++ b)
+put-then out o o′ at k a b h q e e′ = rw (e′, e, q) (put-put out at a b h)

@@ -5,14 +5,21 @@ use mathlib.Core.List.{List, [], _∷_, _++_, map, flatMap}
 use Prim.Native.Nat.{ℕ, _+_, _*_, _%_}
 use lib.Dec.{ltb}
 use lib.ListN.{length, take, drop}
+use Rattle.model.specs.declared.Mark.{Mark}
+use Rattle.model.specs.declared.Opcode.{Opcode}
+use Rattle.model.specs.declared.Target.{Target}
 use Rattle.model.specs.declared.Line.{Line}
 use Rattle.model.specs.Limits.{lineWidth}
 use Rattle.model.specs.Answers.{Outcome, outcome, counted, refused, atFront}
-use Rattle.model.specs.Stored.{codes, lineCount}
+use Rattle.model.specs.Stored.{operandOf, codes, lineCount}
 
 -- the numbers of a line as a store of 16 bits takes them; those of a correct line are its codes
 abbrev pub encoded : Line → List ℕ
 encoded l = map (λ n. n % 65536) (codes l)
+
+-- the line of a mark, an opcode and a target whose operands have these numbers
+abbrev pub lineWith : Mark → Opcode → ℕ → ℕ → ℕ → Target → Line
+lineWith m o d a b t = record { mark = m; opcode = o; destination = operandOf d; first = operandOf a; second = operandOf b; target = t }
 
 -- lines put into a store from line k on; the rest stays
 unfoldable pub put : List ℕ → ℕ → List Line → List ℕ

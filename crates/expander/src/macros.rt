@@ -1,37 +1,24 @@
-// The lines that a line becomes, as stored numbers: the pieces of the macros, each piece's line by its number, the macros, and how
-// long a part is. Operands go in as their numbers, so that a line's are worked out once.
+// The lines that a line becomes, written into a lent store as stored numbers: a line, the pieces of the macros, the macros; and how
+// long a part is.
 ghost use mathlib.Core.Path.{_≡_};
 ghost use mathlib.Core.List.{[], _∷_};
-ghost use Prim.Native.Nat.{ℕ};
+ghost use Prim.Native.Nat.{ℕ, _+_, _*_, _%_, _≤_, _<_};
 ghost use lib.ListN.{length};
 ghost use Rattle.model.specs.declared.Operand.{Operand};
-ghost use Rattle.model.specs.Code.{code};
-ghost use Rattle.expander.specs.Macros.{codedLine, Numbered, Shows};
-ghost use Rattle.model.specs.Expansion.{coded, load, scale, combine, fetch, flip, writeBack, lookup, negate, copy, macro, size};
-use model::Line;
+ghost use Rattle.model.specs.declared.Target.{Target};
+ghost use Rattle.model.specs.Stored.{targetCode, operandOf, lineAt};
+ghost use Rattle.model.specs.Expansion.{coded, markedLine, move, load, scale, combine, writeBack, lookup, negate, copy, macro, size};
+ghost use Rattle.expander.specs.Writes.{lineWith, put};
+use coding::LINE_WIDTH;
 use model::Mark;
 use model::Opcode;
-use model::Operand;
 
-// The numbers of the opcodes that the macros use,
-const MOV: u16 = 3;
-
-const AND: u16 = 4;
-
-const ORR: u16 = 5;
-
-const XOR: u16 = 6;
-
-const LSL: u16 = 7;
-
-// of r0 to r3, of #1, of #3, which is both bits of a code,
+// The numbers of r0 to r2, of #1, of #3, which is both bits of a code,
 const R0: u16 = coding::REGISTERS;
 
 const R1: u16 = coding::REGISTERS + 1;
 
 const R2: u16 = coding::REGISTERS + 2;
-
-const R3: u16 = coding::REGISTERS + 3;
 
 const ONE: u16 = coding::LITERALS + 1;
 
@@ -44,214 +31,149 @@ const ORR_TABLE: u16 = coding::TABLES + 272;
 
 const XOR_TABLE: u16 = coding::TABLES + 288;
 
-// Where the pieces after the first begin: in the macro of and, orr and xor, of not, and of mov.
-const SCALE_AT: usize = 2;
-
-const SECOND_AT: usize = 5;
-
-const COMBINE_AT: usize = 7;
-
-const FETCH_AT: usize = 9;
-
-const WRITE_BACK_AT: usize = 11;
-
-const FLIP_AT: usize = 2;
-
-const FLIPPED_AT: usize = 3;
-
-const COPY_AT: usize = 2;
-
-// ---- literals
-
-// Bit 1 is 01, bit 0 is 10.
-fn code_of(bit: u8) -> u8
-    ensures { λ r. ⌜ r ≡ code bit ⌝ }
-{
-    if bit == 0 { 2 } else { 1 }
-}
-
 // A literal of a marked line, coded.
-fn coded(operand: Operand) -> Operand
-    ensures { λ r. ⌜ r ≡ coded operand ⌝ }
+pub fn coded(code: u16) -> u16
+    ensures { λ r. ⌜ operandOf r ≡ coded (operandOf code) ⌝ }
 {
-    match operand {
-        Operand::Empty => Operand::Empty,
-        Operand::Literal(n) => Operand::Literal(code_of(n)),
-        Operand::Register(n) => Operand::Register(n),
-        Operand::Cell(n) => Operand::Cell(n),
-        Operand::PublicCell { base, offset } => Operand::PublicCell { base, offset },
-        Operand::SensitiveCell { base, offset } => Operand::SensitiveCell { base, offset },
-        Operand::TableCell { base, offset } => Operand::TableCell { base, offset },
+    if code < coding::LITERALS {
+        return code;
     }
-}
-
-// A line with its arguments coded.
-pub fn coded_line(line: Line) -> Line
-    ensures { λ r. ⌜ r ≡ codedLine line ⌝ }
-{
-    let mark = line.mark;
-    let opcode = line.opcode;
-    let destination = line.destination;
-    let a = line.first;
-    let b = line.second;
-    let target = line.target;
-    let first = coded(a);
-    let second = coded(b);
-    Line {
-        mark,
-        opcode,
-        destination,
-        first,
-        second,
-        target,
+    if code < coding::REGISTERS {
+        let n = code - coding::LITERALS;
+        return coding::LITERALS + (coding::code_of(n as u8) as u16);
     }
+    code
 }
 
-// ---- the lines, each as its six numbers: marked, and without a target
+// ---- a line at line `at` of a store
 
-fn marked_line(opcode: u16, d: u16, a: u16, b: u16) -> [u16; 6]
-    ensures { λ r. ⌜ r ≡ 1 ∷ opcode ∷ d ∷ a ∷ b ∷ 0 ∷ [] ⌝ }
+// A line of that mark and opcode, with these numbers for its operands and its target.
+pub fn put_line(out: &mut [u16], at: usize, m: Mark, o: Opcode, d: u16, a: u16, b: u16, t: u16)
+    requires { ⌜ 6 * (at + 1) ≤ length (now out) ⌝ }
+    ensures { λ r. ⌜ ((y : Target) → t ≡ targetCode y % 65536 → now (out .exit) ≡ put (now (out .entry)) at (lineWith m o d a b y ∷ [])) ⌝ }
 {
-    [1, opcode, d, a, b, 0]
+    let k = LINE_WIDTH * at;
+    out[k] = coding::mark_code(m);
+    out[k + 1] = coding::opcode_code(o);
+    out[k + 2] = d;
+    out[k + 3] = a;
+    out[k + 4] = b;
+    out[k + 5] = t;
 }
 
-fn mov(d: u16, a: u16) -> [u16; 6]
-    ensures { λ r. ⌜ r ≡ 1 ∷ 3 ∷ d ∷ a ∷ 0 ∷ 0 ∷ [] ⌝ }
+fn put_marked(out: &mut [u16], at: usize, o: Opcode, d: u16, a: u16, b: u16)
+    requires { ⌜ 6 * (at + 1) ≤ length (now out) ⌝ }
+    ensures { λ r. ⌜ now (out .exit) ≡ put (now (out .entry)) at (markedLine o (operandOf d) (operandOf a) (operandOf b) ∷ []) ⌝ }
 {
-    marked_line(MOV, d, a, 0)
+    put_line(out, at, Mark::Marked, o, d, a, b, 0);
 }
 
-// ---- the pieces, line j of each
+fn put_move(out: &mut [u16], at: usize, d: u16, a: u16)
+    requires { ⌜ 6 * (at + 1) ≤ length (now out) ⌝ }
+    ensures { λ r. ⌜ now (out .exit) ≡ put (now (out .entry)) at (move (operandOf d) (operandOf a) ∷ []) ⌝ }
+{
+    put_marked(out, at, Opcode::Mov, d, a, 0);
+}
+
+// ---- the pieces
 
 // Register n precharged and loaded.
-fn load_line(j: usize, n: u16, a: u16) -> [u16; 6]
-    ensures { λ r. ⌜ ((m : ℕ) (x : Operand) → Numbered n (Operand.Register m) → Numbered a x → Shows r (load m x) j) ⌝ }
+fn put_load(out: &mut [u16], at: usize, n: u16, a: u16)
+    requires { ⌜ (n < 32) × (6 * (at + 2) ≤ length (now out)) ⌝ }
+    ensures { λ r. ⌜ now (out .exit) ≡ put (now (out .entry)) at (load n (operandOf a)) ⌝ }
 {
-    if j == 0 {
-        return mov(n, R0);
-    }
-    mov(n, a)
+    put_move(out, at, R0 + n, R0);
+    put_move(out, at + 1, R0 + n, a);
 }
 
 // The first code masked, and shifted to its place in the index.
-fn scale_line(j: usize) -> [u16; 6]
-    ensures { λ r. ⌜ Shows r scale j ⌝ }
+fn put_scale(out: &mut [u16], at: usize)
+    requires { ⌜ 6 * (at + 3) ≤ length (now out) ⌝ }
+    ensures { λ r. ⌜ now (out .exit) ≡ put (now (out .entry)) at scale ⌝ }
 {
-    if j == 0 {
-        return marked_line(AND, R1, R1, MASK);
-    }
-    marked_line(LSL, R1, R1, ONE)
+    put_marked(out, at, Opcode::And, R1, R1, MASK);
+    put_marked(out, at + 1, Opcode::Lsl, R1, R1, ONE);
+    put_marked(out, at + 2, Opcode::Lsl, R1, R1, ONE);
 }
 
 // The second code masked, and joined to the first.
-fn combine_line(j: usize) -> [u16; 6]
-    ensures { λ r. ⌜ Shows r combine j ⌝ }
+fn put_combine(out: &mut [u16], at: usize)
+    requires { ⌜ 6 * (at + 2) ≤ length (now out) ⌝ }
+    ensures { λ r. ⌜ now (out .exit) ≡ put (now (out .entry)) at combine ⌝ }
 {
-    if j == 0 {
-        return marked_line(AND, R2, R2, MASK);
-    }
-    marked_line(ORR, R1, R1, R2)
-}
-
-// r3 precharged, and loaded from the table that t reads.
-fn fetch_line(j: usize, t: u16) -> [u16; 6]
-    ensures { λ r. ⌜ ((k : ℕ) → Numbered t (Operand.TableCell 1 k) → Shows r (fetch k) j) ⌝ }
-{
-    if j == 0 {
-        return mov(R3, R0);
-    }
-    mov(R3, t)
-}
-
-// Both bits of the code flipped.
-fn flip_line() -> [u16; 6]
-    ensures { λ r. ⌜ Shows r flip 0 ⌝ }
-{
-    marked_line(XOR, R1, R1, MASK)
+    put_marked(out, at, Opcode::And, R2, R2, MASK);
+    put_marked(out, at + 1, Opcode::Orr, R1, R1, R2);
 }
 
 // The destination precharged, and written from register n.
-fn write_back_line(j: usize, n: u16, d: u16) -> [u16; 6]
-    ensures { λ r. ⌜ ((m : ℕ) (x : Operand) → Numbered n (Operand.Register m) → Numbered d x → Shows r (writeBack m x) j) ⌝ }
+fn put_write_back(out: &mut [u16], at: usize, n: u16, d: u16)
+    requires { ⌜ (n < 32) × (6 * (at + 2) ≤ length (now out)) ⌝ }
+    ensures { λ r. ⌜ now (out .exit) ≡ put (now (out .entry)) at (writeBack n (operandOf d)) ⌝ }
 {
-    if j == 0 {
-        return mov(d, R0);
-    }
-    mov(d, n)
+    put_move(out, at, d, R0);
+    put_move(out, at + 1, d, R0 + n);
 }
 
-// ---- the macros, line j of each
+// ---- the macros
 
-// and, orr, xor
-fn lookup_line(j: usize, t: u16, d: u16, a: u16, b: u16) -> [u16; 6]
-    ensures { λ r. ⌜ ((k : ℕ) (x y z : Operand) → Numbered t (Operand.TableCell 1 k) → Numbered d x → Numbered a y → Numbered b z → Shows r (lookup k x y z) j) ⌝ }
+// and, orr, xor, by the number of the operand that reads their table.
+fn put_lookup(out: &mut [u16], at: usize, t: u16, d: u16, a: u16, b: u16)
+    requires { ⌜ 6 * (at + 13) ≤ length (now out) ⌝ }
+    ensures { λ r. ⌜ ((k : ℕ) → operandOf t ≡ Operand.TableCell 1 k → now (out .exit) ≡ put (now (out .entry)) at (lookup k (operandOf d) (operandOf a) (operandOf b))) ⌝ }
 {
-    if j < SCALE_AT {
-        return load_line(j, R1, a);
-    }
-    if j < SECOND_AT {
-        return scale_line(j - SCALE_AT);
-    }
-    if j < COMBINE_AT {
-        return load_line(j - SECOND_AT, R2, b);
-    }
-    if j < FETCH_AT {
-        return combine_line(j - COMBINE_AT);
-    }
-    if j < WRITE_BACK_AT {
-        return fetch_line(j - FETCH_AT, t);
-    }
-    write_back_line(j - WRITE_BACK_AT, R3, d)
+    put_load(out, at, 1, a);
+    put_scale(out, at + 2);
+    put_load(out, at + 5, 2, b);
+    put_combine(out, at + 7);
+    put_load(out, at + 9, 3, t);
+    put_write_back(out, at + 11, 3, d);
 }
 
 // not
-fn negate_line(j: usize, d: u16, a: u16) -> [u16; 6]
-    ensures { λ r. ⌜ ((x y : Operand) → Numbered d x → Numbered a y → Shows r (negate x y) j) ⌝ }
+fn put_negate(out: &mut [u16], at: usize, d: u16, a: u16)
+    requires { ⌜ 6 * (at + 5) ≤ length (now out) ⌝ }
+    ensures { λ r. ⌜ now (out .exit) ≡ put (now (out .entry)) at (negate (operandOf d) (operandOf a)) ⌝ }
 {
-    if j < FLIP_AT {
-        return load_line(j, R1, a);
-    }
-    if j < FLIPPED_AT {
-        return flip_line();
-    }
-    write_back_line(j - FLIPPED_AT, R1, d)
+    put_load(out, at, 1, a);
+    put_marked(out, at + 2, Opcode::Xor, R1, R1, MASK);
+    put_write_back(out, at + 3, 1, d);
 }
 
 // mov
-fn copy_line(j: usize, d: u16, a: u16) -> [u16; 6]
-    ensures { λ r. ⌜ ((x y : Operand) → Numbered d x → Numbered a y → Shows r (copy x y) j) ⌝ }
+fn put_copy(out: &mut [u16], at: usize, d: u16, a: u16)
+    requires { ⌜ 6 * (at + 4) ≤ length (now out) ⌝ }
+    ensures { λ r. ⌜ now (out .exit) ≡ put (now (out .entry)) at (copy (operandOf d) (operandOf a)) ⌝ }
 {
-    if j < COPY_AT {
-        return load_line(j, R3, a);
-    }
-    write_back_line(j - COPY_AT, R3, d)
+    put_load(out, at, 3, a);
+    put_write_back(out, at + 2, 3, d);
 }
 
-// Line j of the macro of an opcode; where the opcode has none, there is no line j.
-pub fn macro_line(j: usize, o: Opcode, d: u16, a: u16, b: u16) -> [u16; 6]
-    ensures { λ r. ⌜ ((x y z : Operand) → Numbered d x → Numbered a y → Numbered b z → Shows r (macro o x y z) j) ⌝ }
+// The macro of an opcode; those that no marked line of an accepted program has give nothing.
+pub fn put_macro(out: &mut [u16], at: usize, o: Opcode, d: u16, a: u16, b: u16)
+    requires { ⌜ 6 * (at + length (macro o Operand.Empty Operand.Empty Operand.Empty)) ≤ length (now out) ⌝ }
+    ensures { λ r. ⌜ now (out .exit) ≡ put (now (out .entry)) at (macro o (operandOf d) (operandOf a) (operandOf b)) ⌝ }
 {
     match o {
-        Opcode::Nop => mov(d, a),
-        Opcode::Jmp => mov(d, a),
-        Opcode::Not => negate_line(j, d, a),
-        Opcode::Mov => copy_line(j, d, a),
-        Opcode::And => lookup_line(j, AND_TABLE, d, a, b),
-        Opcode::Orr => lookup_line(j, ORR_TABLE, d, a, b),
-        Opcode::Xor => lookup_line(j, XOR_TABLE, d, a, b),
-        Opcode::Lsl => mov(d, a),
-        Opcode::Lsr => mov(d, a),
-        Opcode::Add => mov(d, a),
-        Opcode::Mul => mov(d, a),
-        Opcode::Beq => mov(d, a),
-        Opcode::Bne => mov(d, a),
+        Opcode::Nop => {}
+        Opcode::Jmp => {}
+        Opcode::Not => put_negate(out, at, d, a),
+        Opcode::Mov => put_copy(out, at, d, a),
+        Opcode::And => put_lookup(out, at, AND_TABLE, d, a, b),
+        Opcode::Orr => put_lookup(out, at, ORR_TABLE, d, a, b),
+        Opcode::Xor => put_lookup(out, at, XOR_TABLE, d, a, b),
+        Opcode::Lsl => {}
+        Opcode::Lsr => {}
+        Opcode::Add => {}
+        Opcode::Mul => {}
+        Opcode::Beq => {}
+        Opcode::Bne => {}
     }
 }
 
 // ---- how long a part is
 
 // The lines of an opcode's macro.
-pub fn macro_size(o: Opcode) -> u16
+fn macro_size(o: Opcode) -> u16
     ensures { λ r. ⌜ r ≡ length (macro o Operand.Empty Operand.Empty Operand.Empty) ⌝ }
 {
     match o {
@@ -271,14 +193,13 @@ pub fn macro_size(o: Opcode) -> u16
     }
 }
 
-// The lines of a line's part.
-pub fn size_of(line: Line) -> u16
-    ensures { λ r. ⌜ r ≡ size line ⌝ }
+// The lines of the part of line i.
+pub fn size_at(program: &[u16], i: usize) -> u16
+    ensures { λ r. ⌜ r ≡ size (lineAt (now (program .entry)) i) ⌝ }
 {
-    let m = line.mark;
-    let o = line.opcode;
-    match m {
-        Mark::Unmarked => 1,
-        Mark::Marked => macro_size(o),
+    let n = coding::numbers_at(program, i);
+    if n[0] == 0 {
+        return 1;
     }
+    macro_size(coding::opcode_of(n[1]))
 }

@@ -1,58 +1,31 @@
-// Conditions 10 to 16 of a line, and the mark check of a program whose numbers are lines.
+// Conditions 10 to 16 of a line, and the mark check of a program whose numbers are lines. The tests are made on the stored numbers
+// themselves, by the ranges that decode them; no line is made.
 ghost use mathlib.Core.Path.{_≡_};
-ghost use mathlib.Core.Bool.{cond, _||_, _&&_};
-ghost use Prim.Native.Nat.{_+_};
+ghost use mathlib.Core.Bool.{false, cond, _||_};
 ghost use Rattle.model.specs.Answers.{report};
 ghost use Rattle.model.specs.Places.{kind, kindOf, isPublic, isSensitive};
-ghost use Rattle.model.specs.Stored.{lines};
+ghost use Rattle.model.specs.Stored.{markOf, opcodeOf, operandOf, targetOf, lineOf, lineAt, lines};
 ghost use Rattle.model.specs.Marks.{isReserved, hasSensitiveBase, isNoBit, hasMacro, isAbove, isMarked};
 ghost use Rattle.model.specs.Marks.{holds10, holds11, holds12, holds13, holds14, holds15, holds16, markFault, marksOf};
+use coding::CELLS;
 use coding::LINE_WIDTH;
+use coding::LITERALS;
+use coding::PUBLICS;
+use coding::REGISTERS;
+use coding::SENSITIVES;
+use coding::TABLES;
 use model::Answer;
-use model::Line;
-use model::Mark;
 use model::Opcode;
-use model::Operand;
-use model::Target;
 
 // The most lines of an accepted program.
 pub const MAX_ACCEPTED: usize = 1024;
 
-// ---- tests joined
-
-fn choose(b: bool, x: bool, y: bool) -> bool
-    ensures { λ r. ⌜ r ≡ cond b x y ⌝ }
-{
-    if b { x } else { y }
-}
-
-fn either(x: bool, y: bool) -> bool
-    ensures { λ r. ⌜ r ≡ (x || y) ⌝ }
-{
-    if x { true } else { y }
-}
-
-fn any(x: bool, y: bool, z: bool) -> bool
-    ensures { λ r. ⌜ r ≡ (x || y || z) ⌝ }
-{
-    either(either(x, y), z)
-}
-
-fn both(x: bool, y: bool) -> bool
-    ensures { λ r. ⌜ r ≡ (x && y) ⌝ }
-{
-    if x { y } else { false }
-}
-
 // ---- what the conditions ask of a mark, a place, an operand, an opcode and a target
 
-fn is_marked(mark: Mark) -> bool
-    ensures { λ r. ⌜ r ≡ isMarked mark ⌝ }
+fn is_marked(m: u16) -> bool
+    ensures { λ r. ⌜ r ≡ isMarked (markOf m) ⌝ }
 {
-    match mark {
-        Mark::Unmarked => false,
-        Mark::Marked => true,
-    }
+    m != 0
 }
 
 // r4 to r15 and cells 0 to 127.
@@ -87,77 +60,88 @@ fn is_sensitive_place(i: usize) -> bool
     i < 288
 }
 
-fn is_public(operand: Operand) -> bool
-    ensures { λ r. ⌜ r ≡ isPublic (kindOf operand) ⌝ }
+fn is_public(code: u16) -> bool
+    ensures { λ r. ⌜ r ≡ isPublic (kindOf (operandOf code)) ⌝ }
 {
-    match operand {
-        Operand::Empty => false,
-        Operand::Literal(_) => false,
-        Operand::Register(n) => is_public_place(n as usize),
-        Operand::Cell(n) => is_public_place(32 + (n as usize)),
-        Operand::PublicCell { base: _, offset: _ } => true,
-        Operand::SensitiveCell { base: _, offset: _ } => false,
-        Operand::TableCell { base: _, offset: _ } => false,
+    if code < REGISTERS {
+        return false;
     }
+    if code < CELLS {
+        return is_public_place((code - REGISTERS) as usize);
+    }
+    if code < PUBLICS {
+        return is_public_place(32 + ((code - CELLS) as usize));
+    }
+    code < SENSITIVES
 }
 
-fn is_sensitive(operand: Operand) -> bool
-    ensures { λ r. ⌜ r ≡ isSensitive (kindOf operand) ⌝ }
+fn is_sensitive(code: u16) -> bool
+    ensures { λ r. ⌜ r ≡ isSensitive (kindOf (operandOf code)) ⌝ }
 {
-    match operand {
-        Operand::Empty => false,
-        Operand::Literal(_) => false,
-        Operand::Register(n) => is_sensitive_place(n as usize),
-        Operand::Cell(n) => is_sensitive_place(32 + (n as usize)),
-        Operand::PublicCell { base: _, offset: _ } => false,
-        Operand::SensitiveCell { base: _, offset: _ } => true,
-        Operand::TableCell { base: _, offset: _ } => false,
+    if code < REGISTERS {
+        return false;
     }
+    if code < CELLS {
+        return is_sensitive_place((code - REGISTERS) as usize);
+    }
+    if code < PUBLICS {
+        return is_sensitive_place(32 + ((code - CELLS) as usize));
+    }
+    if code < SENSITIVES {
+        return false;
+    }
+    code < TABLES
 }
 
 // r0 to r3, also as a base, a cell above 255, or ^.
-fn is_reserved(operand: Operand) -> bool
-    ensures { λ r. ⌜ r ≡ isReserved operand ⌝ }
+fn is_reserved(code: u16) -> bool
+    ensures { λ r. ⌜ r ≡ isReserved (operandOf code) ⌝ }
 {
-    match operand {
-        Operand::Empty => false,
-        Operand::Literal(_) => false,
-        Operand::Register(n) => n < 4,
-        Operand::Cell(n) => 255 < n,
-        Operand::PublicCell { base, offset: _ } => base < 4,
-        Operand::SensitiveCell { base, offset: _ } => base < 4,
-        Operand::TableCell { base: _, offset: _ } => true,
+    if code < REGISTERS {
+        return false;
     }
+    if code < CELLS {
+        return code - REGISTERS < 4;
+    }
+    if code < PUBLICS {
+        return 255 < code - CELLS;
+    }
+    if code < SENSITIVES {
+        return (code - PUBLICS) / 128 < 4;
+    }
+    if code < TABLES {
+        return (code - SENSITIVES) / 128 < 4;
+    }
+    true
 }
 
 // r16 to r31 as a base.
-fn has_sensitive_base(operand: Operand) -> bool
-    ensures { λ r. ⌜ r ≡ hasSensitiveBase operand ⌝ }
+fn has_sensitive_base(code: u16) -> bool
+    ensures { λ r. ⌜ r ≡ hasSensitiveBase (operandOf code) ⌝ }
 {
-    match operand {
-        Operand::Empty => false,
-        Operand::Literal(_) => false,
-        Operand::Register(_) => false,
-        Operand::Cell(_) => false,
-        Operand::PublicCell { base, offset: _ } => is_sensitive_place(base as usize),
-        Operand::SensitiveCell { base, offset: _ } => is_sensitive_place(base as usize),
-        Operand::TableCell { base, offset: _ } => is_sensitive_place(base as usize),
+    if code < PUBLICS {
+        return false;
     }
+    if code < SENSITIVES {
+        return is_sensitive_place(((code - PUBLICS) / 128) as usize);
+    }
+    if code < TABLES {
+        return is_sensitive_place(((code - SENSITIVES) / 128) as usize);
+    }
+    is_sensitive_place(((code - TABLES) / 256) as usize)
 }
 
 // A literal above 1.
-fn is_no_bit(operand: Operand) -> bool
-    ensures { λ r. ⌜ r ≡ isNoBit operand ⌝ }
+fn is_no_bit(code: u16) -> bool
+    ensures { λ r. ⌜ r ≡ isNoBit (operandOf code) ⌝ }
 {
-    match operand {
-        Operand::Empty => false,
-        Operand::Literal(n) => 1 < n,
-        Operand::Register(_) => false,
-        Operand::Cell(_) => false,
-        Operand::PublicCell { base: _, offset: _ } => false,
-        Operand::SensitiveCell { base: _, offset: _ } => false,
-        Operand::TableCell { base: _, offset: _ } => false,
+    if code < LITERALS {
+        return false;
     }
+    if code < REGISTERS {
+        return 1 < code - LITERALS;
+    }
+    false
 }
 
 fn has_macro(opcode: Opcode) -> bool
@@ -180,114 +164,137 @@ fn has_macro(opcode: Opcode) -> bool
     }
 }
 
-fn is_above(count: u16, target: Target) -> bool
-    ensures { λ r. ⌜ r ≡ isAbove count target ⌝ }
+// A target's number is 1 more than its line, and 0 for no target: one test tells both.
+fn is_above(count: u16, t: u16) -> bool
+    ensures { λ r. ⌜ r ≡ isAbove count (targetOf t) ⌝ }
 {
-    match target {
-        Target::Empty => false,
-        Target::Line(n) => count < n,
+    (count as u32) + 1 < (t as u32)
+}
+
+// Whether an unmarked line has a sensitive argument.
+fn reads_sensitive(m: u16, a: u16, b: u16) -> bool
+    ensures { λ r. ⌜ r ≡ cond (isMarked (markOf m)) false (isSensitive (kindOf (operandOf a)) || isSensitive (kindOf (operandOf b))) ⌝ }
+{
+    if is_marked(m) {
+        return false;
     }
+    if is_sensitive(a) {
+        return true;
+    }
+    is_sensitive(b)
 }
 
-// ---- the conditions of a line
+// ---- the conditions of a line, each on the numbers of the fields that it asks about
 
-fn holds10(line: Line) -> bool
-    ensures { λ r. ⌜ r ≡ holds10 line ⌝ }
+fn holds10(d: u16, a: u16, b: u16) -> bool
+    ensures { λ r. ⌜ r ≡ holds10 (lineOf 0 0 d a b 0) ⌝ }
 {
-    let d = line.destination;
-    let a = line.first;
-    let b = line.second;
-    any(is_reserved(d), is_reserved(a), is_reserved(b))
+    if is_reserved(d) {
+        return true;
+    }
+    if is_reserved(a) {
+        return true;
+    }
+    is_reserved(b)
 }
 
-fn holds11(line: Line) -> bool
-    ensures { λ r. ⌜ r ≡ holds11 line ⌝ }
+fn holds11(m: u16, d: u16) -> bool
+    ensures { λ r. ⌜ r ≡ holds11 (lineOf m 0 d 0 0 0) ⌝ }
 {
-    let m = line.mark;
-    let d = line.destination;
-    choose(is_marked(m), is_public(d), is_sensitive(d))
+    if is_marked(m) {
+        return is_public(d);
+    }
+    is_sensitive(d)
 }
 
-fn holds12(line: Line) -> bool
-    ensures { λ r. ⌜ r ≡ holds12 line ⌝ }
+fn holds12(m: u16, d: u16, a: u16, b: u16) -> bool
+    ensures { λ r. ⌜ r ≡ holds12 (lineOf m 0 d a b 0) ⌝ }
 {
-    let m = line.mark;
-    let d = line.destination;
-    let a = line.first;
-    let b = line.second;
-    let argument = choose(
-        is_marked(m),
-        false,
-        either(is_sensitive(a), is_sensitive(b)),
-    );
-    let base = any(
-        has_sensitive_base(d),
-        has_sensitive_base(a),
-        has_sensitive_base(b),
-    );
-    either(argument, base)
+    if reads_sensitive(m, a, b) {
+        return true;
+    }
+    if has_sensitive_base(d) {
+        return true;
+    }
+    if has_sensitive_base(a) {
+        return true;
+    }
+    has_sensitive_base(b)
 }
 
-fn holds13(line: Line) -> bool
-    ensures { λ r. ⌜ r ≡ holds13 line ⌝ }
+fn holds13(m: u16, a: u16, b: u16) -> bool
+    ensures { λ r. ⌜ r ≡ holds13 (lineOf m 0 0 a b 0) ⌝ }
 {
-    let m = line.mark;
-    let a = line.first;
-    let b = line.second;
-    both(is_marked(m), either(is_public(a), is_public(b)))
+    if is_marked(m) {
+        if is_public(a) {
+            return true;
+        }
+        return is_public(b);
+    }
+    false
 }
 
-fn holds14(line: Line) -> bool
-    ensures { λ r. ⌜ r ≡ holds14 line ⌝ }
+fn holds14(m: u16, o: u16) -> bool
+    ensures { λ r. ⌜ r ≡ holds14 (lineOf m o 0 0 0 0) ⌝ }
 {
-    let m = line.mark;
-    let o = line.opcode;
-    let able = has_macro(o);
-    both(is_marked(m), !able)
+    if is_marked(m) {
+        return !has_macro(coding::opcode_of(o));
+    }
+    false
 }
 
-fn holds15(line: Line) -> bool
-    ensures { λ r. ⌜ r ≡ holds15 line ⌝ }
+fn holds15(m: u16, a: u16, b: u16) -> bool
+    ensures { λ r. ⌜ r ≡ holds15 (lineOf m 0 0 a b 0) ⌝ }
 {
-    let m = line.mark;
-    let a = line.first;
-    let b = line.second;
-    both(is_marked(m), either(is_no_bit(a), is_no_bit(b)))
+    if is_marked(m) {
+        if is_no_bit(a) {
+            return true;
+        }
+        return is_no_bit(b);
+    }
+    false
 }
 
-fn holds16(count: u16, line: Line) -> bool
-    ensures { λ r. ⌜ r ≡ holds16 count line ⌝ }
+fn holds16(count: u16, t: u16) -> bool
+    ensures { λ r. ⌜ r ≡ holds16 count (lineOf 0 0 0 0 0 t) ⌝ }
 {
-    let t = line.target;
     is_above(count, t)
 }
 
-// The lowest of the conditions 10 to 16 that a line of a program of so many lines breaks; 0 for none.
-fn mark_fault(count: u16, line: Line) -> u8
-    ensures { λ r. ⌜ r ≡ markFault count line ⌝ }
+// The lowest of the conditions 10 to 16 that six numbers break in a program of so many lines; 0 for none.
+fn mark_fault(count: u16, m: u16, o: u16, d: u16, a: u16, b: u16, t: u16) -> u8
+    ensures { λ r. ⌜ r ≡ markFault count (lineOf m o d a b t) ⌝ }
 {
-    if holds10(line) {
+    if holds10(d, a, b) {
         return 10;
     }
-    if holds11(line) {
+    if holds11(m, d) {
         return 11;
     }
-    if holds12(line) {
+    if holds12(m, d, a, b) {
         return 12;
     }
-    if holds13(line) {
+    if holds13(m, a, b) {
         return 13;
     }
-    if holds14(line) {
+    if holds14(m, o) {
         return 14;
     }
-    if holds15(line) {
+    if holds15(m, a, b) {
         return 15;
     }
-    if holds16(count, line) {
+    if holds16(count, t) {
         return 16;
     }
     0
+}
+
+// The same of line i of a stored program.
+fn mark_fault_at(count: u16, program: &[u16], i: usize) -> u8
+    ensures { λ r. ⌜ r ≡ markFault count (lineAt (now (program .entry)) i) ⌝ }
+{
+    let n = coding::numbers_at(program, i);
+    mark_fault(count, n[0], n[1], n[2], n[3], n[4], n[5])
 }
 
 // 9 more than 1,024 lines, then the first bad line; else the line count.
@@ -300,7 +307,7 @@ pub fn check_marks(program: &[u16]) -> Answer
     }
     let mut i = 0;
     while i < count {
-        let number = mark_fault(count as u16, coding::line_at(program, i));
+        let number = mark_fault_at(count as u16, program, i);
         if number != 0 {
             return Answer::Refused {
                 number,

@@ -1,15 +1,13 @@
 // The starts of the lines' parts: added up once, then looked up.
 ghost use mathlib.Core.Path.{_≡_};
-ghost use Prim.Native.Nat.{_≤_};
+ghost use Prim.Native.Nat.{_%_, _≤_};
 ghost use lib.ListN.{length};
 ghost use Rattle.model.specs.Limits.{maxAccepted};
-ghost use Rattle.model.specs.Stored.{lineCount, lines};
-ghost use Rattle.model.specs.Expansion.{newTarget, retarget};
+ghost use Rattle.model.specs.Stored.{targetOf, targetCode, lineCount, lines};
+ghost use Rattle.model.specs.Expansion.{newTarget};
 ghost use Rattle.expander.specs.Starts.{lookedUp, Starts};
 use super::macros;
 use coding::LINE_WIDTH;
-use model::Line;
-use model::Target;
 
 // The starts of the lines and of the end.
 pub fn fill_starts(program: &[u16], starts: &mut [u16; 1025])
@@ -21,7 +19,7 @@ pub fn fill_starts(program: &[u16], starts: &mut [u16; 1025])
     let mut sum = 0;
     starts[0] = 0;
     while i < count {
-        sum += macros::size_of(coding::line_at(program, i));
+        sum += macros::size_at(program, i);
         i += 1;
         starts[i] = sum;
     }
@@ -39,32 +37,12 @@ fn start_at(starts: &[u16; 1025], t: u16) -> u16
     }
 }
 
-fn new_target(starts: &[u16; 1025], target: Target) -> Target
-    ensures { λ r. ⌜ r ≡ newTarget (lookedUp (now (starts .entry))) target ⌝ }
+// The number of a target whose line is replaced by the start of that line's part, as a store of 16 bits takes it.
+pub fn new_target(starts: &[u16; 1025], t: u16) -> u16
+    ensures { λ r. ⌜ r ≡ targetCode (newTarget (lookedUp (now (starts .entry))) (targetOf t)) % 65536 ⌝ }
 {
-    match target {
-        Target::Empty => Target::Empty,
-        Target::Line(t) => Target::Line(start_at(starts, t)),
+    if t == 0 {
+        return 0;
     }
-}
-
-// A line with the start of its target's part for its target.
-pub fn retarget(starts: &[u16; 1025], line: Line) -> Line
-    ensures { λ r. ⌜ r ≡ retarget (lookedUp (now (starts .entry))) line ⌝ }
-{
-    let mark = line.mark;
-    let opcode = line.opcode;
-    let destination = line.destination;
-    let first = line.first;
-    let second = line.second;
-    let t = line.target;
-    let target = new_target(starts, t);
-    Line {
-        mark,
-        opcode,
-        destination,
-        first,
-        second,
-        target,
-    }
+    ((1 + (start_at(starts, t - 1) as u32)) % 65536) as u16
 }

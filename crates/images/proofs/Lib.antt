@@ -1,4 +1,3 @@
 pub mod Tests
-pub mod Table
 pub mod Tables
 pub mod Walk

@@ -36,13 +36,6 @@ fn page_at(i: usize) -> u8
     0
 }
 
-// Bit 1 is 01, bit 0 is 10.
-fn code_of(bit: u8) -> u8
-    ensures { λ r. ⌜ r ≡ code bit ⌝ }
-{
-    if bit == 0 { 2 } else { 1 }
-}
-
 // What an image holds at place i, x being what the bit state holds there.
 fn image_at(i: usize, x: u8) -> u8
     ensures { λ r. ⌜ r ≡ imageAt i x ⌝ }
@@ -54,13 +47,13 @@ fn image_at(i: usize, x: u8) -> u8
         return x;
     }
     if i < 32 {
-        return code_of(x);
+        return coding::code_of(x);
     }
     if i < 160 {
         return x;
     }
     if i < 288 {
-        return code_of(x);
+        return coding::code_of(x);
     }
     page_at(i - 288)
 }

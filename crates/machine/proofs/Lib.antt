@@ -1,4 +1,4 @@
-pub mod Forms
+pub mod NamedPlaces
 pub mod Product
 pub mod Loops
 pub mod Traces

@@ -81,7 +81,7 @@ back-image s v b h =
 
 -- ---- condition 19 on the way there: what passes is a bit state
 
-every-at : (f : ℕ → ℕ → Bool) (i : ℕ) (l : List ℕ) → T (every f i l) → (n : ℕ) → n < length l → T (f (i + n) (getD l n 0))
+pub every-at : (f : ℕ → ℕ → Bool) (i : ℕ) (l : List ℕ) → T (every f i l) → (n : ℕ) → n < length l → T (f (i + n) (getD l n 0))
 unfolding every
 every-at f i [] e n h = absurd (not-suc-le-zero h)
 every-at f i (x ∷ l) e zero h = rw (add-zero i) (and-both (f i x) (every f (suc i) l) e .0)

@@ -1,4 +1,5 @@
 pub mod TestLaws
+pub mod Forms
 pub mod StoredLaws
 pub mod DecimalLaws
 pub mod SpellingLaws

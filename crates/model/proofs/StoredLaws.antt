@@ -23,6 +23,7 @@ use Rattle.model.specs.Limits.{lineWidth, maxLines}
 use Rattle.model.specs.Answers.{Report, counted, refused}
 use Rattle.model.specs.Lines.{Filled, filled, fills, isLiteral, operandRight, targetRight, correct, AllCorrect}
 use Rattle.model.specs.Stored.{literals, registers, cells, publics, sensitives, tables, marks, opcodes, operands, targets, markCode, opcodeCode, operandCode, targetCode, codes, markOf, opcodeOf, operandOf, targetOf, lineOf, Field, Parsed, numbers, wrong, orWrong, sameFilled, noLiteral, parsed, storedField, parsedNumbers, fault, lineCount, atLine, lineAt, faultAt, linesFrom, lines, checkFrom, programCheck}
+use Rattle.model.proofs.Forms.{empty, literal, register, cell, public-cell, sensitive-cell, table-cell, operand-number}
 use Rattle.model.proofs.TestLaws.{below, is-true, holds, and-both, both-and, some-if, get-past}
 
 -- ---- a field's number, its form, and its number again
@@ -32,31 +33,23 @@ pub record Operands (n : ℕ) : Type 0 where
   pub right : T (operandRight (ltb 0 n) (operandOf n))
   pub same : operandCode (operandOf n) ≡ n
 
-stands-for : (n : ℕ) (op : Operand) → operandOf n ≡ op → T (operandRight (ltb 0 n) op) → operandCode op ≡ n → Operands n
-stands-for n op e r s = record { right = rw e r; same = rw e s }
+stands-for : (n : ℕ) (op : Operand) → operandOf n ≡ op → T (operandRight (ltb 0 n) op) → Operands n
+stands-for n op e r = record { right = rw e r; same = operand-number n }
 
 two-below : (r b k c : ℕ) → r < b → k < c → T (ltb r b && ltb k c)
 two-below r b k c h g = both-and (ltb r b) (ltb k c) (lt→ltb r b h) (lt→ltb k c g)
 
 pub operand-back : (n : ℕ) → n < operands → Operands n
-unfolding operandOf operandRight
+unfolding operandRight
 operand-back n h =
-    below n literals (λ l. stands-for n Empty (rw (lt-ltb n literals l)) (rw (le-ltb 0 n (omega arith)) tt) (omega arith)) (λ g.
+    below n literals (λ l. stands-for n _ (empty n l) (rw (le-ltb 0 n (omega arith)) tt)) (λ g.
     let some-field : ltb 0 n ≡ true = lt-ltb 0 n (omega arith) in
-    let e : ltb n literals ≡ false = le-ltb n literals g in
-    below n registers (λ l. stands-for n (Literal (n - literals)) (rw (e, lt-ltb n registers l)) (rw some-field (omega (arith, le→leb))) (omega arith)) (λ g1.
-    let e1 : ltb n registers ≡ false = le-ltb n registers g1 in
-    below n cells (λ l. stands-for n (Register (n - registers)) (rw (e, e1, lt-ltb n cells l)) (rw some-field (omega (arith, lt→ltb))) (omega arith)) (λ g2.
-    let e2 : ltb n cells ≡ false = le-ltb n cells g2 in
-    below n publics (λ l. stands-for n (Cell (n - cells)) (rw (e, e1, e2, lt-ltb n publics l)) (rw some-field (omega (arith, lt→ltb))) (omega arith)) (λ g3.
-    let e3 : ltb n publics ≡ false = le-ltb n publics g3 in
-    below n sensitives
-    (λ l. stands-for n (PublicCell ((n - publics) / 128) ((n - publics) % 128)) (rw (e, e1, e2, e3, lt-ltb n sensitives l)) (rw some-field (two-below ((n - publics) / 128) 32 ((n - publics) % 128) 128 (omega arith) (omega arith))) (omega arith))
-    (λ g4.
-    let e4 : ltb n sensitives ≡ false = le-ltb n sensitives g4 in
-    below n tables
-    (λ l. stands-for n (SensitiveCell ((n - sensitives) / 128) ((n - sensitives) % 128)) (rw (e, e1, e2, e3, e4, lt-ltb n tables l)) (rw some-field (two-below ((n - sensitives) / 128) 32 ((n - sensitives) % 128) 128 (omega arith) (omega arith))) (omega arith))
-    (λ g5. stands-for n (TableCell ((n - tables) / 256) ((n - tables) % 256)) (rw (e, e1, e2, e3, e4, le-ltb n tables g5)) (rw some-field (two-below ((n - tables) / 256) 32 ((n - tables) % 256) 256 (omega arith) (omega arith))) (omega arith)))))))
+    below n registers (λ l. stands-for n _ (literal n g l) (rw some-field (omega (arith, le→leb)))) (λ g.
+    below n cells (λ l. stands-for n _ (register n g l) (rw some-field (omega (arith, lt→ltb)))) (λ g.
+    below n publics (λ l. stands-for n _ (cell n g l) (rw some-field (omega (arith, lt→ltb)))) (λ g.
+    below n sensitives (λ l. stands-for n _ (public-cell n g l) (rw some-field (two-below ((n - publics) / 128) 32 ((n - publics) % 128) 128 (omega arith) (omega arith)))) (λ g.
+    below n tables (λ l. stands-for n _ (sensitive-cell n g l) (rw some-field (two-below ((n - sensitives) / 128) 32 ((n - sensitives) % 128) 128 (omega arith) (omega arith)))) (λ g.
+    stands-for n _ (table-cell n g) (rw some-field (two-below ((n - tables) / 256) 32 ((n - tables) % 256) 256 (omega arith) (omega arith)))))))))
 
 pub target-back : (n : ℕ) → n < targets → T (targetRight (ltb 0 n) (targetOf n)) × (targetCode (targetOf n) ≡ n)
 unfolding targetOf targetRight

@@ -43,3 +43,15 @@ get-past (a ∷ l) (suc i) h = get-past l i (omega arith)
 pub some-if : (t : Bool) {k n : ℕ} → cond t (some k) none ≡ some n → (t ≡ true) × (k ≡ n)
 some-if true e = (refl, cc)
 some-if false e = absurd (false≢true (cc))
+
+-- a test of every number below n
+unfoldable pub allBelow : (ℕ → Bool) → ℕ → Bool
+allBelow f zero = true
+allBelow f (suc n) = f n && allBelow f n
+
+pub all-below : (f : ℕ → Bool) (n k : ℕ) → T (allBelow f n) → k < n → T (f k)
+unfolding allBelow
+all-below f zero k e h = absurd (omega arith)
+all-below f (suc n) k e h =
+    let w = and-both (f n) (allBelow f n) e in
+    below k n (λ z. all-below f n k (w .1) z) (λ z. let q : k ≡ n = omega arith in rw q (w .0))

@@ -1,6 +1,6 @@
 -- A field as the reader tests it, byte by byte. Laws of proofs/ show that it finds the number that the model's spelling gives, and
 -- only that. Assumes nothing.
-use mathlib.Core.Bool.{Bool, cond}
+use mathlib.Core.Bool.{cond}
 use mathlib.Core.List.{List, [], _∷_}
 use mathlib.Core.Option.{Option, none, some}
 use Prim.Native.Nat.{ℕ, _+_, _-_, _*_}
@@ -67,16 +67,3 @@ readOperand s = cond (eqb (length s) 0) (Is 0) (readKind (getD s 0 0) (drop 1 s)
 
 unfoldable pub readTarget : List ℕ → Field
 readTarget s = cond (eqb (length s) 0) (Is 0) (shift 1 (readNumber (maxLines + 1) s))
-
--- w where a field is filled
-unfoldable pub bitOf : ℕ → Bool → ℕ
-bitOf w t = cond t w 0
-
--- which of destination, first, second and target the opcode of number o fills, as four bits
-unfoldable pub shapeOf : ℕ → ℕ
-shapeOf o =
-    cond (eqb o 0) 0
-    (cond (eqb o 1) 1
-    (cond (ltb o 4) 12
-    (cond (ltb o 11) 14
-    7)))

@@ -2,11 +2,9 @@
 ghost use mathlib.Core.Path.{_≡_};
 ghost use mathlib.Core.List.{[], _∷_};
 ghost use Prim.Native.Nat.{_+_, _≤_, _<_};
-ghost use lib.Dec.{ltb};
-ghost use Rattle.model.specs.Lines.{filled, fills};
-ghost use Rattle.model.specs.Stored.{opcodeOf, sameFilled, noLiteral};
+ghost use Rattle.model.specs.Stored.{opcodeOf, noLiteral};
 ghost use Rattle.model.specs.Text.{sameBytes, spelledFrom, spellOpcode, markField, opcodeField, operandField, targetField};
-ghost use Rattle.text.specs.Fields.{found, digitsFrom, readNumber, shift, readIndirect, readKind, bitOf, shapeOf};
+ghost use Rattle.text.specs.Fields.{found, digitsFrom, readNumber, shift, readIndirect, readKind};
 use crate::Field;
 use crate::cut::beyond;
 use crate::cut::find;
@@ -241,38 +239,4 @@ pub(crate) fn target(s: &[u8]) -> Field
         return Field::Is(0);
     }
     plain(s, LINE_NUMBERS, 1)
-}
-
-// w where a field of n bytes is filled.
-fn bit(w: u8, n: usize) -> u8
-    ensures { λ r. ⌜ (r ≡ bitOf w (ltb 0 n)) × (r ≤ w) ⌝ }
-{
-    if 0 < n { w } else { 0 }
-}
-
-// Which of destination, first, second and target opcode o fills, as four bits.
-fn shape(o: u16) -> u8
-    ensures { λ r. ⌜ r ≡ shapeOf o ⌝ }
-{
-    if o == 0 {
-        return 0;
-    }
-    if o == 1 {
-        return 1;
-    }
-    if o < 4 {
-        return 12;
-    }
-    if o < 11 {
-        return 14;
-    }
-    7
-}
-
-// Whether fields of so many bytes are filled just where opcode o fills them.
-pub(crate) fn shaped(o: u16, d: usize, a: usize, b: usize, t: usize) -> bool
-    requires { ⌜ o < 13 ⌝ }
-    ensures { λ r. ⌜ r ≡ sameFilled (fills (opcodeOf o)) (filled (ltb 0 d) (ltb 0 a) (ltb 0 b) (ltb 0 t)) ⌝ }
-{
-    bit(8, d) + bit(4, a) + bit(2, b) + bit(1, t) == shape(o)
 }

@@ -14,7 +14,6 @@ use crate::fields::destination;
 use crate::fields::mark;
 use crate::fields::opcode;
 use crate::fields::operand;
-use crate::fields::shaped;
 use crate::fields::target;
 
 // The first bytes of a line among which its newline must be.
@@ -30,7 +29,7 @@ fn fields(m: &[u8], o: &[u8], d: &[u8], a: &[u8], b: &[u8], t: &[u8]) -> Parsed
     let Field::Is(opcode) = opcode(o) else {
         return Parsed::Refused(4);
     };
-    if !shaped(opcode, d.len(), a.len(), b.len(), t.len()) {
+    if !coding::is_shaped(opcode, 0 < d.len(), 0 < a.len(), 0 < b.len(), 0 < t.len()) {
         return Parsed::Refused(5);
     }
     let Field::Is(destination) = destination(d) else {

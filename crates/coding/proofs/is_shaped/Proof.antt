@@ -1,30 +1,46 @@
--- `coding::is_shaped` meets its contract: the first field that is not as it must be decides. Assumes nothing.
-use mathlib.Core.Bool.{Bool·beq}
-use lib.Dec.{leb, ltb}
-use borrow.Author.Tests.{not-true, not-false}
+-- `coding::is_shaped` meets its contract: the four bits are compared with the opcode's. Assumes nothing.
+use Rattle.coding.proofs.Shapes.{shape-tests}
 use borrow.Author.Needs.{needs}
 use Rattle.coding.proofs.is_shaped.Statement.{statement}
 use Rattle.coding.proofs.is_shaped.Tie as tie
 
-has-destination-requires : tie.Need-has-destination-requires
-has-destination-requires c κs = search needs
+bit-requires : tie.Need-bit-requires
+bit-requires c κs = search needs
+
+bit-requires-2 : tie.Need-bit-requires-2
+bit-requires-2 c κs = search needs
+
+add-result : tie.Need-add-result
+add-result c = search needs
+
+bit-requires-3 : tie.Need-bit-requires-3
+bit-requires-3 c κs = search needs
+
+add-result-2 : tie.Need-add-result-2
+add-result-2 c = search needs
+
+bit-requires-4 : tie.Need-bit-requires-4
+bit-requires-4 c κs = search needs
+
+add-result-3 : tie.Need-add-result-3
+add-result-3 c = search needs
+
+shape-requires : tie.Need-shape-requires
+shape-requires c κs = search needs
 
 returns : tie.Need-returns
-returns c = rw (← c .before .has-destination .ensures, not-true (Bool·beq (c .before .has-destination .result) (ltb 0 (c .before .before .args .d))) (c .if1 .taken))
-
-returns-2 : tie.Need-returns-2
-returns-2 c = rw (← c .before .before .has-destination .ensures, not-false (Bool·beq (c .before .before .has-destination .result) (ltb 0 (c .before .before .before .args .d))) (c .before .if1 .left), not-true (Bool·beq (leb 2 (c .before .before .before .args .o)) (ltb 0 (c .before .before .before .args .a))) (c .if2 .taken))
-
-returns-3 : tie.Need-returns-3
-returns-3 c = rw (← c .before .before .before .has-destination .ensures, not-false (Bool·beq (c .before .before .before .has-destination .result) (ltb 0 (c .before .before .before .before .args .d))) (c .before .before .if1 .left), not-false (Bool·beq (leb 2 (c .before .before .before .before .args .o)) (ltb 0 (c .before .before .before .before .args .a))) (c .before .if2 .left), not-true (Bool·beq (leb 4 (c .before .before .before .before .args .o)) (ltb 0 (c .before .before .before .before .args .b))) (c .if3 .taken))
-
-has-target-requires : tie.Need-has-target-requires
-has-target-requires c κs = search needs
-
-returns-4 : tie.Need-returns-4
-returns-4 c = rw (← c .before .before .before .before .has-destination .ensures, not-false (Bool·beq (c .before .before .before .before .has-destination .result) (ltb 0 (c .before .before .before .before .before .args .d))) (c .before .before .before .if1 .left), not-false (Bool·beq (leb 2 (c .before .before .before .before .before .args .o)) (ltb 0 (c .before .before .before .before .before .args .a))) (c .before .before .if2 .left), not-false (Bool·beq (leb 4 (c .before .before .before .before .before .args .o)) (ltb 0 (c .before .before .before .before .before .args .b))) (c .before .if3 .left), ← c .has-target .ensures)
+returns c = rw (c .before .before .before .before .bit .ensures .0, c .before .before .before .bit2 .ensures .0, c .before .before .bit3 .ensures .0, c .before .bit4 .ensures .0, c .shape .ensures) (let x = c .before .before .before .before .before .args in shape-tests (x .o) (x .d) (x .a) (x .b) (x .t))
 
 pub is-shaped-spec : {M : Type 1} → statement M
 is-shaped-spec =
     tie.close
-    (tie.spec has-destination-requires returns returns-2 returns-3 has-target-requires returns-4)
+    (tie.spec
+    bit-requires
+    bit-requires-2
+    add-result
+    bit-requires-3
+    add-result-2
+    bit-requires-4
+    add-result-3
+    shape-requires
+    returns)

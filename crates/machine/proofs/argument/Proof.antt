@@ -10,7 +10,8 @@ use Rattle.model.specs.Step.{argument}
 use Rattle.model.specs.Places.{State, value, place, address}
 use Rattle.machine.specs.declared.Place.{Place}
 use Rattle.machine.specs.Loop.{placeOf, argumentOf}
-use Rattle.machine.proofs.Forms.{empty, literal, reads-place}
+use Rattle.model.proofs.Forms.{empty, literal}
+use Rattle.machine.proofs.NamedPlaces.{reads-place}
 use Rattle.machine.proofs.argument.Statement.{statement}
 use Rattle.machine.proofs.argument.Tie as tie
 

@@ -1,7 +1,7 @@
 -- `machine::destination` meets its contract: an empty field and a literal name no place. Assumes nothing.
 use lib.Count.{ones}
 use borrow.Author.Needs.{needs}
-use Rattle.machine.proofs.Forms.{no-place, no-address}
+use Rattle.machine.proofs.NamedPlaces.{no-place, no-address}
 use Rattle.machine.proofs.destination.Statement.{statement}
 use Rattle.machine.proofs.destination.Tie as tie
 

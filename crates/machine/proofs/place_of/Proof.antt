@@ -5,7 +5,7 @@ use native.Mathlib.Omega.{arith}
 use lib.Count.{ones}
 use borrow.Author.Needs.{needs}
 use Rattle.model.specs.Places.{place, address}
-use Rattle.machine.proofs.Forms.{register, cell, public-cell, sensitive-cell, table-cell}
+use Rattle.model.proofs.Forms.{register, cell, public-cell, sensitive-cell, table-cell}
 use Rattle.machine.proofs.place_of.Statement.{statement}
 use Rattle.machine.proofs.place_of.Tie as tie
 

@@ -1,77 +1,35 @@
--- `expander::macros::coded` meets its contract. An arm for each variant. Assumes nothing.
+-- `expander::macros::coded` meets its contract. By the tests that tell a literal. Assumes nothing.
+use native.Mathlib.Omega.{arith}
 use Rattle.model.specs.Expansion.{coded}
+use Rattle.model.proofs.Forms.{empty}
+use Rattle.expander.proofs.PartNumbers.{coded-literal, coded-other}
 use borrow.Author.Needs.{needs}
 use Rattle.expander.proofs.macros.coded.Statement.{statement}
 use Rattle.expander.proofs.macros.coded.Tie as tie
 
-enum-told : tie.Need-enum-told
-enum-told c = search needs
+returns : tie.Need-returns
+unfolding coded
+returns c = rw (empty _ (c .if1 .taken))
 
-enum-known-operand : tie.Need-enum-known-operand
-enum-known-operand c = search needs
+cast-code-of : tie.Need-cast-code-of
+cast-code-of c = search needs
 
 code-of-requires : tie.Need-code-of-requires
 code-of-requires c κs = search needs
 
-enum-known-operand-2 : tie.Need-enum-known-operand-2
-enum-known-operand-2 c = search needs
+cast-result : tie.Need-cast-result
+cast-result c = search needs
 
-enum-known-operand-3 : tie.Need-enum-known-operand-3
-enum-known-operand-3 c = search needs
-
-enum-known-operand-4 : tie.Need-enum-known-operand-4
-enum-known-operand-4 c = search needs
-
-enum-known-operand-5 : tie.Need-enum-known-operand-5
-enum-known-operand-5 c = search needs
-
-enum-known-operand-6 : tie.Need-enum-known-operand-6
-enum-known-operand-6 c = search needs
-
-returns : tie.Need-returns
-unfolding coded
-returns c = cc
+add-result : tie.Need-add-result
+add-result c = search needs
 
 returns-2 : tie.Need-returns-2
-unfolding coded
-returns-2 c = cc
+returns-2 c = coded-literal _ _ (c .before .before .if1 .left) (c .before .if2 .taken) (c .code-of .ensures) (search needs)
 
 returns-3 : tie.Need-returns-3
-unfolding coded
-returns-3 c = cc
-
-returns-4 : tie.Need-returns-4
-unfolding coded
-returns-4 c = cc
-
-returns-5 : tie.Need-returns-5
-unfolding coded
-returns-5 c = cc
-
-returns-6 : tie.Need-returns-6
-unfolding coded
-returns-6 c = cc
-
-returns-7 : tie.Need-returns-7
-unfolding coded
-returns-7 c = cc
+returns-3 c = coded-other _ (c .if2 .left)
 
 pub coded-spec : {M : Type 1} → statement M
 coded-spec =
     tie.close
-    (tie.spec
-    enum-told
-    enum-known-operand
-    code-of-requires
-    enum-known-operand-2
-    enum-known-operand-3
-    enum-known-operand-4
-    enum-known-operand-5
-    enum-known-operand-6
-    returns
-    returns-2
-    returns-3
-    returns-4
-    returns-5
-    returns-6
-    returns-7)
+    (tie.spec returns cast-code-of code-of-requires cast-result add-result returns-2 returns-3)

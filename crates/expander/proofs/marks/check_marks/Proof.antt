@@ -23,22 +23,19 @@ returns c = too-long (c .before .before .args .program .now) (c .if1 .taken)
 loop-holds : tie.Need-loop-holds Inv-loop μ-loop
 loop-holds c = (omega arith, begins (c .before .before .args .program .now) (c .if1 .left))
 
-cast-mark-fault : tie.Need-cast-mark-fault Inv-loop μ-loop
-cast-mark-fault c = omega arith
+cast-mark-fault-at : tie.Need-cast-mark-fault-at Inv-loop μ-loop
+cast-mark-fault-at c = omega arith
 
-line-at-requires : tie.Need-line-at-requires Inv-loop μ-loop
-line-at-requires c κs = search needs
+mark-fault-at-requires : tie.Need-mark-fault-at-requires Inv-loop μ-loop
+mark-fault-at-requires c κs = search needs
 
-mark-fault-requires : tie.Need-mark-fault-requires Inv-loop μ-loop
-mark-fault-requires c κs = search needs
-
-cast-t10 : tie.Need-cast-t10 Inv-loop μ-loop
-cast-t10 c = omega arith
+cast-t9 : tie.Need-cast-t9 Inv-loop μ-loop
+cast-t9 c = omega arith
 
 returns-2 : tie.Need-returns-2 Inv-loop μ-loop
 returns-2 c =
-    let l = c .before .before .before .before .loop in
-    fails (c .before .before .before .before .before .before .before .args .program .now) _ (l .i) _ _ (c .before .before .before .loop-test .taken) (c .before .before .line-at .ensures) (c .before .mark-fault .ensures) (c .if2 .taken) ∙ l .inv .1
+    let l = c .before .before .before .loop in
+    fails (c .before .before .before .before .before .before .args .program .now) _ (l .i) _ (c .before .before .loop-test .taken) (c .before .mark-fault-at .ensures) (c .if2 .taken) ∙ l .inv .1
 
 add-i : tie.Need-add-i Inv-loop μ-loop
 add-i c = omega arith
@@ -48,11 +45,11 @@ loop-less c = omega arith
 
 loop-again : tie.Need-loop-again Inv-loop μ-loop
 loop-again c =
-    let l = c .before .before .before .before .loop in
-    (omega arith, passes (c .before .before .before .before .before .before .before .args .program .now) _ (l .i) _ _ (c .before .before .before .loop-test .taken) (c .before .before .line-at .ensures) (c .before .mark-fault .ensures) (c .if2 .left) ∙ l .inv .1)
+    let l = c .before .before .before .loop in
+    (omega arith, passes (c .before .before .before .before .before .before .args .program .now) _ (l .i) _ (c .before .before .loop-test .taken) (c .before .mark-fault-at .ensures) (c .if2 .left) ∙ l .inv .1)
 
-cast-t11 : tie.Need-cast-t11 Inv-loop μ-loop
-cast-t11 c = omega arith
+cast-t10 : tie.Need-cast-t10 Inv-loop μ-loop
+cast-t10 c = omega arith
 
 returns-3 : tie.Need-returns-3 Inv-loop μ-loop
 returns-3 c = ends (c .before .before .before .before .args .program .now) _ _ (c .loop-test .left) ∙ c .before .loop .inv .1
@@ -65,13 +62,12 @@ check-marks-spec =
     μ-loop
     returns
     loop-holds
-    cast-mark-fault
-    line-at-requires
-    mark-fault-requires
-    cast-t10
+    cast-mark-fault-at
+    mark-fault-at-requires
+    cast-t9
     returns-2
     add-i
     loop-less
     loop-again
-    cast-t11
+    cast-t10
     returns-3)

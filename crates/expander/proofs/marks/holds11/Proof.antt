@@ -10,17 +10,18 @@ is-marked-requires c κs = search needs
 is-public-requires : tie.Need-is-public-requires
 is-public-requires c κs = search needs
 
+returns : tie.Need-returns
+unfolding holds11
+returns c = rw (← c .before .before .is-marked .ensures, c .before .if1 .taken) (c .is-public .ensures)
+
 is-sensitive-requires : tie.Need-is-sensitive-requires
 is-sensitive-requires c κs = search needs
 
-choose-requires : tie.Need-choose-requires
-choose-requires c κs = search needs
-
-returns : tie.Need-returns
+returns-2 : tie.Need-returns-2
 unfolding holds11
-returns c = cc
+returns-2 c = rw (← c .before .before .is-marked .ensures, c .before .if1 .left) (c .is-sensitive .ensures)
 
 pub holds11-spec : {M : Type 1} → statement M
 holds11-spec =
     tie.close
-    (tie.spec is-marked-requires is-public-requires is-sensitive-requires choose-requires returns)
+    (tie.spec is-marked-requires is-public-requires returns is-sensitive-requires returns-2)

@@ -10,18 +10,20 @@ is-marked-requires c κs = search needs
 is-public-requires : tie.Need-is-public-requires
 is-public-requires c κs = search needs
 
+returns : tie.Need-returns
+unfolding holds13
+returns c = rw (← c .before .before .before .is-marked .ensures, c .before .before .if1 .taken, ← c .before .is-public .ensures, c .if2 .taken)
+
 is-public-requires-2 : tie.Need-is-public-requires-2
 is-public-requires-2 c κs = search needs
 
-either-requires : tie.Need-either-requires
-either-requires c κs = search needs
-
-both-requires : tie.Need-both-requires
-both-requires c κs = search needs
-
-returns : tie.Need-returns
+returns-2 : tie.Need-returns-2
 unfolding holds13
-returns c = cc
+returns-2 c = rw (← c .before .before .before .before .is-marked .ensures, c .before .before .before .if1 .taken, ← c .before .before .is-public .ensures, c .before .if2 .left) (c .is-public2 .ensures)
+
+returns-3 : tie.Need-returns-3
+unfolding holds13
+returns-3 c = rw (← c .before .is-marked .ensures, c .if1 .left)
 
 pub holds13-spec : {M : Type 1} → statement M
 holds13-spec =
@@ -29,7 +31,7 @@ holds13-spec =
     (tie.spec
     is-marked-requires
     is-public-requires
+    returns
     is-public-requires-2
-    either-requires
-    both-requires
-    returns)
+    returns-2
+    returns-3)

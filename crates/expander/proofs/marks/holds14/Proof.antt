@@ -1,21 +1,28 @@
 -- `expander::marks::holds14` meets its contract. The tests that it joins are those of the definition. Assumes nothing.
+use mathlib.Core.Path.{ap}
+use mathlib.Core.Bool.{not}
 use Rattle.model.specs.Marks.{holds14}
 use borrow.Author.Needs.{needs}
 use Rattle.expander.proofs.marks.holds14.Statement.{statement}
 use Rattle.expander.proofs.marks.holds14.Tie as tie
 
-has-macro-requires : tie.Need-has-macro-requires
-has-macro-requires c κs = search needs
-
 is-marked-requires : tie.Need-is-marked-requires
 is-marked-requires c κs = search needs
 
-both-requires : tie.Need-both-requires
-both-requires c κs = search needs
+opcode-of-requires : tie.Need-opcode-of-requires
+opcode-of-requires c κs = search needs
+
+has-macro-requires : tie.Need-has-macro-requires
+has-macro-requires c κs = search needs
 
 returns : tie.Need-returns
 unfolding holds14
-returns c = cc
+returns c = rw (← c .before .before .before .is-marked .ensures, c .before .before .if1 .taken, ← c .before .opcode-of .ensures) (ap not (c .has-macro .ensures))
+
+returns-2 : tie.Need-returns-2
+unfolding holds14
+returns-2 c = rw (← c .before .is-marked .ensures, c .if1 .left)
 
 pub holds14-spec : {M : Type 1} → statement M
-holds14-spec = tie.close (tie.spec has-macro-requires is-marked-requires both-requires returns)
+holds14-spec =
+    tie.close (tie.spec is-marked-requires opcode-of-requires has-macro-requires returns returns-2)

@@ -1,22 +1,14 @@
--- `expander::marks::is_above` meets its contract. An arm for each variant. Assumes nothing.
-use Rattle.model.specs.Marks.{isAbove}
+-- `expander::marks::is_above` meets its contract, by the law on a target's number. Assumes nothing.
 use borrow.Author.Needs.{needs}
+use Rattle.expander.proofs.KindTests.{above}
 use Rattle.expander.proofs.marks.is_above.Statement.{statement}
 use Rattle.expander.proofs.marks.is_above.Tie as tie
 
-enum-told : tie.Need-enum-told
-enum-told c = search needs
-
-enum-known-target : tie.Need-enum-known-target
-enum-known-target c = search needs
+add-result : tie.Need-add-result
+add-result c = search needs
 
 returns : tie.Need-returns
-unfolding isAbove
-returns c = cc
-
-returns-2 : tie.Need-returns-2
-unfolding isAbove
-returns-2 c = cc
+returns c = above (c .args .t) (c .args .count)
 
 pub is-above-spec : {M : Type 1} → statement M
-is-above-spec = tie.close (tie.spec enum-told enum-known-target returns returns-2)
+is-above-spec = tie.close (tie.spec add-result returns)

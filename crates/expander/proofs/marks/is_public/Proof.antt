@@ -1,17 +1,13 @@
--- `expander::marks::is_public` meets its contract. An arm for each variant. Assumes nothing.
+-- `expander::marks::is_public` meets its contract. Form by form, by the tests that decode the number. Assumes nothing.
 use Rattle.model.specs.Places.{kindOf}
+use Rattle.model.proofs.Forms.{register, cell}
+use Rattle.expander.proofs.KindTests.{low-kind, public-page}
 use borrow.Author.Needs.{needs}
 use Rattle.expander.proofs.marks.is_public.Statement.{statement}
 use Rattle.expander.proofs.marks.is_public.Tie as tie
 
-enum-told : tie.Need-enum-told
-enum-told c = search needs
-
-enum-told-2 : tie.Need-enum-told-2
-enum-told-2 c = search needs
-
-enum-known-operand : tie.Need-enum-known-operand
-enum-known-operand c = search needs
+returns : tie.Need-returns
+returns c = rw (low-kind _ (c .if1 .taken))
 
 cast-is-public-place : tie.Need-cast-is-public-place
 cast-is-public-place c = search needs
@@ -19,8 +15,9 @@ cast-is-public-place c = search needs
 is-public-place-requires : tie.Need-is-public-place-requires
 is-public-place-requires c κs = search needs
 
-enum-known-operand-2 : tie.Need-enum-known-operand-2
-enum-known-operand-2 c = search needs
+returns-2 : tie.Need-returns-2
+unfolding kindOf
+returns-2 c = rw (register _ (c .before .before .if1 .left) (c .before .if2 .taken)) (c .is-public-place .ensures)
 
 cast-is-public-place-2 : tie.Need-cast-is-public-place-2
 cast-is-public-place-2 c = search needs
@@ -31,63 +28,23 @@ add-is-public-place c = search needs
 is-public-place-requires-2 : tie.Need-is-public-place-requires-2
 is-public-place-requires-2 c κs = search needs
 
-enum-told-3 : tie.Need-enum-told-3
-enum-told-3 c = search needs
-
-enum-told-4 : tie.Need-enum-told-4
-enum-told-4 c = search needs
-
-enum-told-5 : tie.Need-enum-told-5
-enum-told-5 c = search needs
-
-returns : tie.Need-returns
-unfolding kindOf
-returns c = cc
-
-returns-2 : tie.Need-returns-2
-unfolding kindOf
-returns-2 c = cc
-
 returns-3 : tie.Need-returns-3
 unfolding kindOf
-returns-3 c = cc
+returns-3 c = rw (cell _ (c .before .before .if2 .left) (c .before .if3 .taken)) (c .is-public-place2 .ensures)
 
 returns-4 : tie.Need-returns-4
-unfolding kindOf
-returns-4 c = cc
-
-returns-5 : tie.Need-returns-5
-unfolding kindOf
-returns-5 c = cc
-
-returns-6 : tie.Need-returns-6
-unfolding kindOf
-returns-6 c = cc
-
-returns-7 : tie.Need-returns-7
-unfolding kindOf
-returns-7 c = cc
+returns-4 c = public-page _ (c .if3 .left)
 
 pub is-public-spec : {M : Type 1} → statement M
 is-public-spec =
     tie.close
     (tie.spec
-    enum-told
-    enum-told-2
-    enum-known-operand
+    returns
     cast-is-public-place
     is-public-place-requires
-    enum-known-operand-2
+    returns-2
     cast-is-public-place-2
     add-is-public-place
     is-public-place-requires-2
-    enum-told-3
-    enum-told-4
-    enum-told-5
-    returns
-    returns-2
     returns-3
-    returns-4
-    returns-5
-    returns-6
-    returns-7)
+    returns-4)

@@ -1,73 +1,32 @@
--- `expander::marks::is_reserved` meets its contract. An arm for each variant. Assumes nothing.
+-- `expander::marks::is_reserved` meets its contract. Form by form, by the tests that decode the number. Assumes nothing.
 use Rattle.model.specs.Marks.{isReserved}
-use borrow.Author.Needs.{needs}
+use Rattle.model.proofs.Forms.{register, cell, public-cell, sensitive-cell, table-cell}
+use Rattle.expander.proofs.KindTests.{low-free}
 use Rattle.expander.proofs.marks.is_reserved.Statement.{statement}
 use Rattle.expander.proofs.marks.is_reserved.Tie as tie
 
-enum-told : tie.Need-enum-told
-enum-told c = search needs
-
-enum-told-2 : tie.Need-enum-told-2
-enum-told-2 c = search needs
-
-enum-known-operand : tie.Need-enum-known-operand
-enum-known-operand c = search needs
-
-enum-known-operand-2 : tie.Need-enum-known-operand-2
-enum-known-operand-2 c = search needs
-
-enum-known-operand-3 : tie.Need-enum-known-operand-3
-enum-known-operand-3 c = search needs
-
-enum-known-operand-4 : tie.Need-enum-known-operand-4
-enum-known-operand-4 c = search needs
-
-enum-told-3 : tie.Need-enum-told-3
-enum-told-3 c = search needs
-
 returns : tie.Need-returns
-unfolding isReserved
-returns c = cc
+returns c = rw (low-free _ (c .if1 .taken))
 
 returns-2 : tie.Need-returns-2
 unfolding isReserved
-returns-2 c = cc
+returns-2 c = rw (register _ (c .before .if1 .left) (c .if2 .taken))
 
 returns-3 : tie.Need-returns-3
 unfolding isReserved
-returns-3 c = cc
+returns-3 c = rw (cell _ (c .before .if2 .left) (c .if3 .taken))
 
 returns-4 : tie.Need-returns-4
 unfolding isReserved
-returns-4 c = cc
+returns-4 c = rw (public-cell _ (c .before .if3 .left) (c .if4 .taken))
 
 returns-5 : tie.Need-returns-5
 unfolding isReserved
-returns-5 c = cc
+returns-5 c = rw (sensitive-cell _ (c .before .if4 .left) (c .if5 .taken))
 
 returns-6 : tie.Need-returns-6
 unfolding isReserved
-returns-6 c = cc
-
-returns-7 : tie.Need-returns-7
-unfolding isReserved
-returns-7 c = cc
+returns-6 c = rw (table-cell _ (c .if5 .left))
 
 pub is-reserved-spec : {M : Type 1} → statement M
-is-reserved-spec =
-    tie.close
-    (tie.spec
-    enum-told
-    enum-told-2
-    enum-known-operand
-    enum-known-operand-2
-    enum-known-operand-3
-    enum-known-operand-4
-    enum-told-3
-    returns
-    returns-2
-    returns-3
-    returns-4
-    returns-5
-    returns-6
-    returns-7)
+is-reserved-spec = tie.close (tie.spec returns returns-2 returns-3 returns-4 returns-5 returns-6)

@@ -1,8 +1,7 @@
--- `expander::marks::mark_fault` meets its contract. A condition that holds gives its number, one that does not leaves the rest to
--- the next. Assumes nothing.
-use Rattle.expander.proofs.MarkWalk.{broken, kept}
-use Rattle.model.specs.Marks.{markFault}
+-- `expander::marks::mark_fault` meets its contract. A condition that holds gives its number, one that does not leaves the rest to the next. Assumes nothing.
 use mathlib.Core.Path.{refl}
+use Rattle.model.specs.Marks.{markFault}
+use Rattle.expander.proofs.MarkWalk.{broken, kept}
 use borrow.Author.Needs.{needs}
 use Rattle.expander.proofs.marks.mark_fault.Statement.{statement}
 use Rattle.expander.proofs.marks.mark_fault.Tie as tie

@@ -5,7 +5,7 @@ use mathlib.Core.Path.{_≡_, sym}
 use lib.ListN.{length, length-set}
 use native.Mathlib.Omega.{arith}
 use borrow.Author.Needs.{needs}
-use Rattle.model.specs.Stored.{lines}
+use Rattle.model.specs.Stored.{lineAt, lines}
 use Rattle.model.specs.Expansion.{start}
 use Rattle.model.proofs.ExpansionLaws.{size-most}
 use Rattle.expander.specs.Starts.{Starts}
@@ -25,14 +25,14 @@ element-write-starts c = search needs
 loop-holds : tie.Need-loop-holds Inv-loop μ-loop
 loop-holds c = (omega arith, omega arith, sym (start-zero (lines (c .before .args .program .now))), simp length-set (c .before .pre .1), starts-none (c .before .args .starts .now) _ (omega (arith, c .before .pre .1)))
 
-line-at-requires : tie.Need-line-at-requires Inv-loop μ-loop
-line-at-requires c κs = search needs
-
-size-of-requires : tie.Need-size-of-requires Inv-loop μ-loop
-size-of-requires c κs = search needs
+size-at-requires : tie.Need-size-at-requires Inv-loop μ-loop
+size-at-requires c κs = search needs
 
 add-sum : tie.Need-add-sum Inv-loop μ-loop
-add-sum c = record { fits = omega (arith, size-most (c .before .line-at .result), c .size-of .ensures) }
+add-sum c =
+    let s = c .before .before .before .before in
+    let l = c .before .before .loop in
+    record { fits = omega (arith, size-most (lineAt (s .args .program .now) (l .i)), c .size-at .ensures) }
 
 add-i : tie.Need-add-i Inv-loop μ-loop
 add-i c = search needs
@@ -48,10 +48,10 @@ loop-less c = search needs
 
 loop-again : tie.Need-loop-again Inv-loop μ-loop
 loop-again c =
-    let s = c .before .before .before .before .before in
-    let l = c .before .before .before .loop in
-    let e : l .sum + c .size-of .result ≡ start (lines (s .args .program .now)) (l .i + 1) = start-next (s .args .program .now) (l .i) _ _ _ (c .before .before .loop-test .taken) (l .inv .2) (c .before .line-at .ensures) (c .size-of .ensures) in
-    (omega arith, omega (arith, size-most (c .before .line-at .result), c .size-of .ensures), e, simp length-set (l .inv .3), starts-more (l .starts) _ (l .i) _ (omega (arith, l .inv .3)) (l .inv .4) e)
+    let s = c .before .before .before .before in
+    let l = c .before .before .loop in
+    let e : l .sum + c .size-at .result ≡ start (lines (s .args .program .now)) (l .i + 1) = start-next (s .args .program .now) (l .i) _ _ (c .before .loop-test .taken) (l .inv .2) (c .size-at .ensures) in
+    (omega arith, omega (arith, size-most (lineAt (s .args .program .now) (l .i)), c .size-at .ensures), e, simp length-set (l .inv .3), starts-more (l .starts) _ (l .i) _ (omega (arith, l .inv .3)) (l .inv .4) e)
 
 returns : tie.Need-returns Inv-loop μ-loop
 returns c = starts-all _ _ _ _ (omega arith) (c .before .loop .inv .4)
@@ -64,8 +64,7 @@ fill-starts-spec =
     μ-loop
     element-write-starts
     loop-holds
-    line-at-requires
-    size-of-requires
+    size-at-requires
     add-sum
     add-i
     mul-starts

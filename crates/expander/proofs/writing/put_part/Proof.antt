@@ -2,80 +2,99 @@
 use native.Mathlib.Omega.{arith}
 use mathlib.Core.Path.{refl}
 use Rattle.expander.specs.Starts.{lookedUp}
-use Rattle.expander.proofs.PartSizes.{plain-size, marked-size}
-use Rattle.expander.proofs.JoinedParts.{plain-put, marked-put, number-of-destination, number-of-first, number-of-second}
+use Rattle.expander.proofs.PartSizes.{plain-length, marked-length}
+use Rattle.expander.proofs.PieceWrites.{plain-put, marked-put}
 use borrow.Author.Needs.{needs}
 use Rattle.expander.proofs.writing.put_part.Statement.{statement}
 use Rattle.expander.proofs.writing.put_part.Tie as tie
 
-enum-told : tie.Need-enum-told
-enum-told c = search needs
+numbers-at-requires : tie.Need-numbers-at-requires
+numbers-at-requires c κs = search needs
 
-retarget-requires : tie.Need-retarget-requires
-retarget-requires c κs = search needs
+array-read-opcode-of : tie.Need-array-read-opcode-of
+array-read-opcode-of c = search needs
 
-encode-requires : tie.Need-encode-requires
-encode-requires c κs = search needs
+opcode-of-requires : tie.Need-opcode-of-requires
+opcode-of-requires c κs = search needs
+
+array-read-if1 : tie.Need-array-read-if1
+array-read-if1 c = search needs
+
+array-read-new-target : tie.Need-array-read-new-target
+array-read-new-target c = search needs
+
+new-target-requires : tie.Need-new-target-requires
+new-target-requires c κs = search needs
+
+array-read-put-line : tie.Need-array-read-put-line
+array-read-put-line c = search needs
+
+array-read-put-line-2 : tie.Need-array-read-put-line-2
+array-read-put-line-2 c = search needs
+
+array-read-put-line-3 : tie.Need-array-read-put-line-3
+array-read-put-line-3 c = search needs
 
 put-line-requires : tie.Need-put-line-requires
 put-line-requires c κs =
-    let s = c .before .before .before .before .before .before in
-    omega (arith, plain-size (s .args .line) (c .before .before .before .enum-told .given .1), s .pre)
-
-enum-told-2 : tie.Need-enum-told-2
-enum-told-2 c = search needs
-
-coded-line-requires : tie.Need-coded-line-requires
-coded-line-requires c κs = search needs
-
-encode-requires-2 : tie.Need-encode-requires-2
-encode-requires-2 c κs = search needs
+    let s = c .before .before .before .before .before .before .before in
+    omega (arith, plain-length (s .args .program .now) _ (s .args .i) (c .before .before .before .before .numbers-at .ensures) (c .before .before .if1 .taken), s .pre)
 
 array-read-put-macro : tie.Need-array-read-put-macro
 array-read-put-macro c = search needs
 
-array-read-put-macro-2 : tie.Need-array-read-put-macro-2
-array-read-put-macro-2 c = search needs
+array-read-coded : tie.Need-array-read-coded
+array-read-coded c = search needs
 
-array-read-put-macro-3 : tie.Need-array-read-put-macro-3
-array-read-put-macro-3 c = search needs
+coded-requires : tie.Need-coded-requires
+coded-requires c κs = search needs
+
+array-read-coded-2 : tie.Need-array-read-coded-2
+array-read-coded-2 c = search needs
+
+coded-requires-2 : tie.Need-coded-requires-2
+coded-requires-2 c κs = search needs
 
 put-macro-requires : tie.Need-put-macro-requires
 put-macro-requires c κs =
-    let s = c .before .before .before .before .before .before in
-    omega (arith, marked-size (s .args .line) _ (c .before .before .before .enum-told2 .given .1) refl, s .pre)
+    let s = c .before .before .before .before .before .before .before .before in
+    omega (arith, marked-length (s .args .program .now) _ (s .args .i) (c .before .before .before .before .before .numbers-at .ensures) _ _ (c .before .before .before .before .opcode-of .ensures) (c .before .before .before .if1 .left) refl, s .pre)
 
 same-length : tie.Need-same-length
 same-length c = search needs
 
 returns : tie.Need-returns
 returns c =
-    let s = c .before .before .before .before .before .before .before .before .before in
-    plain-put (lookedUp (s .args .starts .now)) (s .args .line) (s .args .out .now) _ (s .args .at) _ (c .before .before .before .before .before .before .enum-told .given .1) (c .before .before .before .before .retarget .ensures) (c .before .before .put-line .ensures .1 _ (c .before .before .before .encode .ensures))
+    let s = c .before .before .before .before .before .before .before .before .before .before in
+    plain-put (s .args .out .now) (s .args .at) (lookedUp (s .args .starts .now)) (s .args .program .now) _ _ (s .args .i) _ (c .before .before .before .before .before .before .before .numbers-at .ensures) (c .before .before .before .before .before .before .opcode-of .ensures) (c .before .before .before .before .before .if1 .taken) (c .before .before .put-line .ensures _ (c .before .before .before .before .new-target .ensures))
 
 same-length-2 : tie.Need-same-length-2
 same-length-2 c = search needs
 
 returns-2 : tie.Need-returns-2
 returns-2 c =
-    let s = c .before .before .before .before .before .before .before .before .before in
-    marked-put (lookedUp (s .args .starts .now)) (s .args .line) (s .args .out .now) _ (s .args .at) (c .before .before .before .before .before .before .enum-told2 .given .1)
-    (c .before .before .put-macro .ensures _ _ _ (number-of-destination _ (s .args .line) _ (c .before .before .before .before .encode2 .ensures) (c .before .before .before .before .before .coded-line .ensures)) (number-of-first _ (s .args .line) _ (c .before .before .before .before .encode2 .ensures) (c .before .before .before .before .before .coded-line .ensures)) (number-of-second _ (s .args .line) _ (c .before .before .before .before .encode2 .ensures) (c .before .before .before .before .before .coded-line .ensures)))
+    let s = c .before .before .before .before .before .before .before .before .before .before .before in
+    marked-put (s .args .out .now) (s .args .at) (lookedUp (s .args .starts .now)) (s .args .program .now) _ _ (s .args .i) _ (c .before .before .before .before .before .before .before .before .numbers-at .ensures) (c .before .before .before .before .before .before .before .opcode-of .ensures) _ _ (c .before .before .before .before .before .before .if1 .left) (c .before .before .before .before .coded .ensures) (c .before .before .before .coded2 .ensures) (c .before .before .put-macro .ensures)
 
 pub put-part-spec : {M : Type 1} → statement M
 put-part-spec =
     tie.close
     (tie.spec
-    enum-told
-    retarget-requires
-    encode-requires
+    numbers-at-requires
+    array-read-opcode-of
+    opcode-of-requires
+    array-read-if1
+    array-read-new-target
+    new-target-requires
+    array-read-put-line
+    array-read-put-line-2
+    array-read-put-line-3
     put-line-requires
-    enum-told-2
-    coded-line-requires
-    encode-requires-2
     array-read-put-macro
-    array-read-put-macro-2
-    array-read-put-macro-3
+    array-read-coded
+    coded-requires
+    array-read-coded-2
+    coded-requires-2
     put-macro-requires
     same-length
     returns

@@ -5,7 +5,7 @@ use mathlib.Core.Path.{_≡_, refl, sym}
 use lib.ListN.{length, take}
 use native.Mathlib.Omega.{arith}
 use borrow.Author.Needs.{needs}
-use Rattle.model.specs.Stored.{lines}
+use Rattle.model.specs.Stored.{lineAt, lines}
 use Rattle.model.specs.Expansion.{size, start, joined}
 use Rattle.expander.specs.Starts.{lookedUp}
 use Rattle.expander.specs.Writes.{put}
@@ -23,26 +23,25 @@ abbrev μ-loop : tie.MeasureT-loop
 loop-holds : tie.Need-loop-holds Inv-loop μ-loop
 loop-holds c = (omega arith, sym (start-zero (lines (c .before .before .args .program .now))), refl, none-joined _ (lookedUp (c .before .before .args .starts .now)) (lines (c .before .before .args .program .now)))
 
-line-at-requires : tie.Need-line-at-requires Inv-loop μ-loop
-line-at-requires c κs = search needs
-
 put-part-requires : tie.Need-put-part-requires Inv-loop μ-loop
 put-part-requires c κs =
-    let s = c .before .before .before .before .before .before in
-    let l = c .before .before .before .loop in
-    omega (arith, start-next (s .args .program .now) (l .i) (l .at) (size (c .before .line-at .result)) _ (c .before .before .loop-test .taken) (l .inv .1) (c .before .line-at .ensures) refl, most (s .args .program .now) (s .args .out .now) (lookedUp (s .args .starts .now)) (s .pre) (l .i + 1), s .pre)
+    let s = c .before .before .before .before .before in
+    let l = c .before .before .loop in
+    let p = s .args .program .now in
+    omega (arith, start-next p (l .i) (l .at) (size (lineAt p (l .i))) (c .before .loop-test .taken) (l .inv .1) refl, most p (s .args .out .now) (lookedUp (s .args .starts .now)) (s .pre) (l .i + 1), s .pre)
 
-size-of-requires : tie.Need-size-of-requires Inv-loop μ-loop
-size-of-requires c κs = search needs
+size-at-requires : tie.Need-size-at-requires Inv-loop μ-loop
+size-at-requires c κs = search needs
 
 cast-at : tie.Need-cast-at Inv-loop μ-loop
 cast-at c = search needs
 
 add-at : tie.Need-add-at Inv-loop μ-loop
 add-at c =
-    let s = c .before .before .before .before .before .before .before .before .before .before in
-    let l = c .before .before .before .before .before .before .before .loop in
-    record { fits = omega (arith, start-next (s .args .program .now) (l .i) (l .at) (size (c .before .before .before .before .before .line-at .result)) _ (c .before .before .before .before .before .before .loop-test .taken) (l .inv .1) (c .before .before .before .before .before .line-at .ensures) refl, c .size-of .ensures, most (s .args .program .now) (s .args .out .now) (lookedUp (s .args .starts .now)) (s .pre) (l .i + 1), s .pre) }
+    let s = c .before .before .before .before .before .before .before .before .before in
+    let l = c .before .before .before .before .before .before .loop in
+    let p = s .args .program .now in
+    record { fits = omega (arith, start-next p (l .i) (l .at) _ (c .before .before .before .before .before .loop-test .taken) (l .inv .1) (c .size-at .ensures), most p (s .args .out .now) (lookedUp (s .args .starts .now)) (s .pre) (l .i + 1), s .pre) }
 
 add-i : tie.Need-add-i Inv-loop μ-loop
 add-i c = search needs
@@ -52,12 +51,13 @@ loop-less c = search needs
 
 loop-again : tie.Need-loop-again Inv-loop μ-loop
 loop-again c =
-    let s = c .before .before .before .before .before .before .before .before .before .before in
-    let l = c .before .before .before .before .before .before .before .loop in
+    let s = c .before .before .before .before .before .before .before .before .before in
+    let l = c .before .before .before .before .before .before .loop in
     let p = s .args .program .now in
     let f = lookedUp (s .args .starts .now) in
-    let e : c .before .before .before .put-part .last .0 ≡ put (s .args .out .now) 0 (joined f (take (l .i + 1) (lines p))) = next-part (s .args .program .now) (s .args .out .now) (lookedUp (s .args .starts .now)) (s .pre) _ _ (l .i) (l .at) _ (c .before .before .before .before .before .before .loop-test .taken) (l .inv .3) (l .inv .1) (c .before .before .before .before .before .line-at .ensures) (c .before .before .before .put-part .ensures) in
-    (omega arith, start-next p (l .i) (l .at) _ _ (c .before .before .before .before .before .before .loop-test .taken) (l .inv .1) (c .before .before .before .before .before .line-at .ensures) (c .size-of .ensures), parts-long (s .args .program .now) (s .args .out .now) (lookedUp (s .args .starts .now)) (s .pre) _ (l .i + 1) e, e)
+    let t = c .before .before .before .before .before .loop-test .taken in
+    let e : c .before .before .before .put-part .last .0 ≡ put (s .args .out .now) 0 (joined f (take (l .i + 1) (lines p))) = next-part p (s .args .out .now) f (s .pre) _ _ (l .i) (l .at) t (l .inv .3) (l .inv .1) (c .before .before .before .put-part .ensures) in
+    (omega arith, start-next p (l .i) (l .at) _ t (l .inv .1) (c .size-at .ensures), parts-long p (s .args .out .now) f (s .pre) _ (l .i + 1) e, e)
 
 same-length : tie.Need-same-length Inv-loop μ-loop
 same-length c = search needs
@@ -74,9 +74,8 @@ put-parts-spec =
     Inv-loop
     μ-loop
     loop-holds
-    line-at-requires
     put-part-requires
-    size-of-requires
+    size-at-requires
     cast-at
     add-at
     add-i

@@ -37,12 +37,12 @@ returns-2 : tie.Need-returns-2
 unfolding parsed
 returns-2 c = rw (sym (c .before .before .before .before .before .before .mark .ensures) ∙ ap found (c .before .before .before .before .mark2 .given .1), sym (c .before .before .opcode .ensures) ∙ ap found (c .enum-told2 .given .1))
 
-shaped-requires : tie.Need-shaped-requires
-shaped-requires c κs = omega (arith, spelled-back (λ n. spellOpcode (opcodeOf n)) 0 13 (now (c .before .before .before .before .before .before .before .before .before .before .before .before .before .before .args .o)) (c .before .opcode2 .given .0 .0) (sym (c .before .before .before .opcode .ensures) ∙ ap found (c .before .opcode2 .given .1)) .1)
+is-shaped-requires : tie.Need-is-shaped-requires
+is-shaped-requires c κs = search needs
 
 returns-3 : tie.Need-returns-3
 unfolding parsed
-returns-3 c = rw (sym (c .before .before .before .before .before .before .before .before .before .mark .ensures) ∙ ap found (c .before .before .before .before .before .before .before .mark2 .given .1), sym (c .before .before .before .before .before .opcode .ensures) ∙ ap found (c .before .before .before .opcode2 .given .1), sym (c .before .shaped .ensures) ∙ not-true _ (c .if1 .taken))
+returns-3 c = rw (sym (c .before .before .before .before .before .before .before .before .before .mark .ensures) ∙ ap found (c .before .before .before .before .before .before .before .mark2 .given .1), sym (c .before .before .before .before .before .opcode .ensures) ∙ ap found (c .before .before .before .opcode2 .given .1), sym (c .before .is-shaped .ensures) ∙ not-true _ (c .if1 .taken))
 
 destination-requires : tie.Need-destination-requires
 destination-requires c κs = search needs
@@ -55,7 +55,7 @@ enum-told-3 c = search needs
 
 returns-4 : tie.Need-returns-4
 unfolding parsed
-returns-4 c = rw (sym (c .before .before .before .before .before .before .before .before .before .before .before .before .mark .ensures) ∙ ap found (c .before .before .before .before .before .before .before .before .before .before .mark2 .given .1), sym (c .before .before .before .before .before .before .before .before .opcode .ensures) ∙ ap found (c .before .before .before .before .before .before .opcode2 .given .1), sym (c .before .before .before .before .shaped .ensures) ∙ not-false _ (c .before .before .before .if1 .left), sym (c .before .before .destination .ensures) ∙ ap found (c .enum-told3 .given .1))
+returns-4 c = rw (sym (c .before .before .before .before .before .before .before .before .before .before .before .before .mark .ensures) ∙ ap found (c .before .before .before .before .before .before .before .before .before .before .mark2 .given .1), sym (c .before .before .before .before .before .before .before .before .opcode .ensures) ∙ ap found (c .before .before .before .before .before .before .opcode2 .given .1), sym (c .before .before .before .before .is-shaped .ensures) ∙ not-false _ (c .before .before .before .if1 .left), sym (c .before .before .destination .ensures) ∙ ap found (c .enum-told3 .given .1))
 
 operand-requires : tie.Need-operand-requires
 operand-requires c κs = search needs
@@ -68,7 +68,7 @@ enum-told-4 c = search needs
 
 returns-5 : tie.Need-returns-5
 unfolding parsed
-returns-5 c = rw (sym (c .before .before .before .before .before .before .before .before .before .before .before .before .before .before .before .before .mark .ensures) ∙ ap found (c .before .before .before .before .before .before .before .before .before .before .before .before .before .before .mark2 .given .1), sym (c .before .before .before .before .before .before .before .before .before .before .before .before .opcode .ensures) ∙ ap found (c .before .before .before .before .before .before .before .before .before .before .opcode2 .given .1), sym (c .before .before .before .before .before .before .before .before .shaped .ensures) ∙ not-false _ (c .before .before .before .before .before .before .before .if1 .left), sym (c .before .before .before .before .before .before .destination .ensures) ∙ ap found (c .before .before .before .before .destination2 .given .1), sym (c .before .before .operand .ensures) ∙ ap found (c .enum-told4 .given .1))
+returns-5 c = rw (sym (c .before .before .before .before .before .before .before .before .before .before .before .before .before .before .before .before .mark .ensures) ∙ ap found (c .before .before .before .before .before .before .before .before .before .before .before .before .before .before .mark2 .given .1), sym (c .before .before .before .before .before .before .before .before .before .before .before .before .opcode .ensures) ∙ ap found (c .before .before .before .before .before .before .before .before .before .before .opcode2 .given .1), sym (c .before .before .before .before .before .before .before .before .is-shaped .ensures) ∙ not-false _ (c .before .before .before .before .before .before .before .if1 .left), sym (c .before .before .before .before .before .before .destination .ensures) ∙ ap found (c .before .before .before .before .destination2 .given .1), sym (c .before .before .operand .ensures) ∙ ap found (c .enum-told4 .given .1))
 
 operand-requires-2 : tie.Need-operand-requires-2
 operand-requires-2 c κs = search needs
@@ -81,7 +81,7 @@ enum-told-5 c = search needs
 
 returns-6 : tie.Need-returns-6
 unfolding parsed
-returns-6 c = rw (sym (c .before .before .before .before .before .before .before .before .before .before .before .before .before .before .before .before .before .before .before .before .mark .ensures) ∙ ap found (c .before .before .before .before .before .before .before .before .before .before .before .before .before .before .before .before .before .before .mark2 .given .1), sym (c .before .before .before .before .before .before .before .before .before .before .before .before .before .before .before .before .opcode .ensures) ∙ ap found (c .before .before .before .before .before .before .before .before .before .before .before .before .before .before .opcode2 .given .1), sym (c .before .before .before .before .before .before .before .before .before .before .before .before .shaped .ensures) ∙ not-false _ (c .before .before .before .before .before .before .before .before .before .before .before .if1 .left), sym (c .before .before .before .before .before .before .before .before .before .before .destination .ensures) ∙ ap found (c .before .before .before .before .before .before .before .before .destination2 .given .1), sym (c .before .before .before .before .before .before .operand .ensures) ∙ ap found (c .before .before .before .before .first .given .1), sym (c .before .before .operand2 .ensures) ∙ ap found (c .enum-told5 .given .1))
+returns-6 c = rw (sym (c .before .before .before .before .before .before .before .before .before .before .before .before .before .before .before .before .before .before .before .before .mark .ensures) ∙ ap found (c .before .before .before .before .before .before .before .before .before .before .before .before .before .before .before .before .before .before .mark2 .given .1), sym (c .before .before .before .before .before .before .before .before .before .before .before .before .before .before .before .before .opcode .ensures) ∙ ap found (c .before .before .before .before .before .before .before .before .before .before .before .before .before .before .opcode2 .given .1), sym (c .before .before .before .before .before .before .before .before .before .before .before .before .is-shaped .ensures) ∙ not-false _ (c .before .before .before .before .before .before .before .before .before .before .before .if1 .left), sym (c .before .before .before .before .before .before .before .before .before .before .destination .ensures) ∙ ap found (c .before .before .before .before .before .before .before .before .destination2 .given .1), sym (c .before .before .before .before .before .before .operand .ensures) ∙ ap found (c .before .before .before .before .first .given .1), sym (c .before .before .operand2 .ensures) ∙ ap found (c .enum-told5 .given .1))
 
 target-requires : tie.Need-target-requires
 target-requires c κs = search needs
@@ -94,11 +94,11 @@ enum-told-6 c = search needs
 
 returns-7 : tie.Need-returns-7
 unfolding parsed
-returns-7 c = rw (sym (c .before .before .before .before .before .before .before .before .before .before .before .before .before .before .before .before .before .before .before .before .before .before .before .before .mark .ensures) ∙ ap found (c .before .before .before .before .before .before .before .before .before .before .before .before .before .before .before .before .before .before .before .before .before .before .mark2 .given .1), sym (c .before .before .before .before .before .before .before .before .before .before .before .before .before .before .before .before .before .before .before .before .opcode .ensures) ∙ ap found (c .before .before .before .before .before .before .before .before .before .before .before .before .before .before .before .before .before .before .opcode2 .given .1), sym (c .before .before .before .before .before .before .before .before .before .before .before .before .before .before .before .before .shaped .ensures) ∙ not-false _ (c .before .before .before .before .before .before .before .before .before .before .before .before .before .before .before .if1 .left), sym (c .before .before .before .before .before .before .before .before .before .before .before .before .before .before .destination .ensures) ∙ ap found (c .before .before .before .before .before .before .before .before .before .before .before .before .destination2 .given .1), sym (c .before .before .before .before .before .before .before .before .before .before .operand .ensures) ∙ ap found (c .before .before .before .before .before .before .before .before .first .given .1), sym (c .before .before .before .before .before .before .operand2 .ensures) ∙ ap found (c .before .before .before .before .second .given .1), sym (c .before .before .target .ensures) ∙ ap found (c .enum-told6 .given .1))
+returns-7 c = rw (sym (c .before .before .before .before .before .before .before .before .before .before .before .before .before .before .before .before .before .before .before .before .before .before .before .before .mark .ensures) ∙ ap found (c .before .before .before .before .before .before .before .before .before .before .before .before .before .before .before .before .before .before .before .before .before .before .mark2 .given .1), sym (c .before .before .before .before .before .before .before .before .before .before .before .before .before .before .before .before .before .before .before .before .opcode .ensures) ∙ ap found (c .before .before .before .before .before .before .before .before .before .before .before .before .before .before .before .before .before .before .opcode2 .given .1), sym (c .before .before .before .before .before .before .before .before .before .before .before .before .before .before .before .before .is-shaped .ensures) ∙ not-false _ (c .before .before .before .before .before .before .before .before .before .before .before .before .before .before .before .if1 .left), sym (c .before .before .before .before .before .before .before .before .before .before .before .before .before .before .destination .ensures) ∙ ap found (c .before .before .before .before .before .before .before .before .before .before .before .before .destination2 .given .1), sym (c .before .before .before .before .before .before .before .before .before .before .operand .ensures) ∙ ap found (c .before .before .before .before .before .before .before .before .first .given .1), sym (c .before .before .before .before .before .before .operand2 .ensures) ∙ ap found (c .before .before .before .before .second .given .1), sym (c .before .before .target .ensures) ∙ ap found (c .enum-told6 .given .1))
 
 returns-8 : tie.Need-returns-8
 unfolding parsed
-returns-8 c = rw (sym (c .before .before .before .before .before .before .before .before .before .before .before .before .before .before .before .before .before .before .before .before .before .before .before .before .before .mark .ensures) ∙ ap found (c .before .before .before .before .before .before .before .before .before .before .before .before .before .before .before .before .before .before .before .before .before .before .before .mark2 .given .1), sym (c .before .before .before .before .before .before .before .before .before .before .before .before .before .before .before .before .before .before .before .before .before .opcode .ensures) ∙ ap found (c .before .before .before .before .before .before .before .before .before .before .before .before .before .before .before .before .before .before .before .opcode2 .given .1), sym (c .before .before .before .before .before .before .before .before .before .before .before .before .before .before .before .before .before .shaped .ensures) ∙ not-false _ (c .before .before .before .before .before .before .before .before .before .before .before .before .before .before .before .before .if1 .left), sym (c .before .before .before .before .before .before .before .before .before .before .before .before .before .before .before .destination .ensures) ∙ ap found (c .before .before .before .before .before .before .before .before .before .before .before .before .before .destination2 .given .1), sym (c .before .before .before .before .before .before .before .before .before .before .before .operand .ensures) ∙ ap found (c .before .before .before .before .before .before .before .before .before .first .given .1), sym (c .before .before .before .before .before .before .before .operand2 .ensures) ∙ ap found (c .before .before .before .before .before .second .given .1), sym (c .before .before .before .target .ensures) ∙ ap found (c .before .target2 .given .1))
+returns-8 c = rw (sym (c .before .before .before .before .before .before .before .before .before .before .before .before .before .before .before .before .before .before .before .before .before .before .before .before .before .mark .ensures) ∙ ap found (c .before .before .before .before .before .before .before .before .before .before .before .before .before .before .before .before .before .before .before .before .before .before .before .mark2 .given .1), sym (c .before .before .before .before .before .before .before .before .before .before .before .before .before .before .before .before .before .before .before .before .before .opcode .ensures) ∙ ap found (c .before .before .before .before .before .before .before .before .before .before .before .before .before .before .before .before .before .before .before .opcode2 .given .1), sym (c .before .before .before .before .before .before .before .before .before .before .before .before .before .before .before .before .before .is-shaped .ensures) ∙ not-false _ (c .before .before .before .before .before .before .before .before .before .before .before .before .before .before .before .before .if1 .left), sym (c .before .before .before .before .before .before .before .before .before .before .before .before .before .before .before .destination .ensures) ∙ ap found (c .before .before .before .before .before .before .before .before .before .before .before .before .before .destination2 .given .1), sym (c .before .before .before .before .before .before .before .before .before .before .before .operand .ensures) ∙ ap found (c .before .before .before .before .before .before .before .before .before .first .given .1), sym (c .before .before .before .before .before .before .before .operand2 .ensures) ∙ ap found (c .before .before .before .before .before .second .given .1), sym (c .before .before .before .target .ensures) ∙ ap found (c .before .target2 .given .1))
 
 pub fields-spec : {M : Type 1} → statement M
 fields-spec =
@@ -112,7 +112,7 @@ fields-spec =
     enum-known-opcode
     enum-told-2
     returns-2
-    shaped-requires
+    is-shaped-requires
     returns-3
     destination-requires
     enum-known-destination

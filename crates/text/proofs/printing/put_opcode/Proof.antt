@@ -2,7 +2,7 @@
 use mathlib.Core.Path.{sym, ap}
 use borrow.Author.Needs.{needs}
 use Rattle.model.specs.Text.{spellOpcode}
-use Rattle.text.proofs.FieldLaws.{opcode-past}
+use Rattle.model.proofs.Forms.{opcode-past}
 use Rattle.text.proofs.WroteLaws.{as-text}
 use Rattle.text.proofs.printing.put_opcode.Statement.{statement}
 use Rattle.text.proofs.printing.put_opcode.Tie as tie

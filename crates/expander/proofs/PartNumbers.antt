@@ -1,0 +1,57 @@
+-- The numbers that are written: of a line, of a register, of a literal's code; and what a mark's number tells.
+-- Assumes nothing.
+use mathlib.Core.Path.{_≡_, refl, sym, ap, _∙_}
+use mathlib.Core.List.{[], _∷_}
+use Prim.Native.Nat.{ℕ, _+_, _-_, _%_, _≤_, _<_}
+use native.Mathlib.Nat.{mod-eq-of-lt}
+use native.Mathlib.Omega.{arith}
+use borrow.Author.Tests.{eq-eqb, ne-eqb}
+use Rattle.model.specs.declared.Mark.{Mark}
+use Rattle.model.specs.declared.Mark.the-variants.{Unmarked, Marked}
+use Rattle.model.specs.declared.Opcode.{Opcode}
+use Rattle.model.specs.declared.Operand.the-variants.{Literal, Register}
+use Rattle.model.specs.declared.Target.{Target}
+use Rattle.model.specs.Code.{code}
+use Rattle.model.specs.Stored.{literals, registers, markOf, operandOf, markCode, opcodeCode, operandCode, targetCode}
+use Rattle.model.specs.Expansion.{coded}
+use Rattle.model.proofs.Forms.{literal, register, by-form, operand-number}
+use Rattle.coding.proofs.Codes.{mark-fits, opcode-fits}
+use Rattle.expander.specs.Writes.{encoded, lineWith}
+
+pub register-number : (n : ℕ) → n < 32 → operandOf (registers + n) ≡ Register n
+register-number n h = register (registers + n) (omega arith) (omega arith) ∙ ap Register (omega arith)
+
+-- a number of 16 bits is stored as it is
+operand-stored : (n : ℕ) → n < 65536 → n ≡ operandCode (operandOf n) % 65536
+operand-stored n h = sym (rw (operand-number n) (mod-eq-of-lt h))
+
+-- the numbers of a line with numbers of 16 bits for its operands
+pub line-stored : (m : Mark) (o : Opcode) (d a b t : ℕ) (y : Target) → d < 65536 → a < 65536 → b < 65536 → t ≡ targetCode y % 65536
+    → markCode m ∷ opcodeCode o ∷ d ∷ a ∷ b ∷ t ∷ [] ≡ encoded (lineWith m o d a b y)
+line-stored m o d a b t y hd ha hb e =
+    let em = mark-fits m in
+    let eo = opcode-fits o in
+    let ed = operand-stored d hd in
+    let ea = operand-stored a ha in
+    let eb = operand-stored b hb in
+    cc
+
+-- ---- a literal's code
+
+pub coded-literal : (n x : ℕ) → literals ≤ n → n < registers → x ≡ code (n - literals) → x < 256 → operandOf (literals + x) ≡ coded (operandOf n)
+unfolding coded
+coded-literal n x g h e l = rw (literal n g h, ← e, literal (literals + x) (omega arith) (omega arith)) (ap Literal (omega arith))
+
+pub coded-other : (n : ℕ) → registers ≤ n → operandOf n ≡ coded (operandOf n)
+unfolding coded
+coded-other n h =
+    by-form n (λ o. o ≡ coded o) (λ l. absurd (omega arith)) (λ g l. absurd (omega arith)) (λ g l. refl) (λ g l. refl) (λ g l. refl) (λ g l. refl)
+    (λ g. refl)
+
+-- ---- a mark's number
+
+pub unmarked : (m : ℕ) → m ≡ 0 → markOf m ≡ Unmarked
+unmarked m e = rw (eq-eqb m 0 e)
+
+pub marked : (m : ℕ) → (m ≡ 0 → ⊥) → markOf m ≡ Marked
+marked m e = rw (ne-eqb m 0 e)

@@ -1,0 +1,33 @@
+-- `expander::marks::reads_sensitive` meets its contract. The tests that it joins are those of the definition. Assumes nothing.
+use borrow.Author.Needs.{needs}
+use Rattle.expander.proofs.marks.reads_sensitive.Statement.{statement}
+use Rattle.expander.proofs.marks.reads_sensitive.Tie as tie
+
+is-marked-requires : tie.Need-is-marked-requires
+is-marked-requires c κs = search needs
+
+returns : tie.Need-returns
+returns c = rw (← c .before .is-marked .ensures, c .if1 .taken)
+
+is-sensitive-requires : tie.Need-is-sensitive-requires
+is-sensitive-requires c κs = search needs
+
+returns-2 : tie.Need-returns-2
+returns-2 c = rw (← c .before .before .before .is-marked .ensures, c .before .before .if1 .left, ← c .before .is-sensitive .ensures, c .if2 .taken)
+
+is-sensitive-requires-2 : tie.Need-is-sensitive-requires-2
+is-sensitive-requires-2 c κs = search needs
+
+returns-3 : tie.Need-returns-3
+returns-3 c = rw (← c .before .before .before .before .is-marked .ensures, c .before .before .before .if1 .left, ← c .before .before .is-sensitive .ensures, c .before .if2 .left) (c .is-sensitive2 .ensures)
+
+pub reads-sensitive-spec : {M : Type 1} → statement M
+reads-sensitive-spec =
+    tie.close
+    (tie.spec
+    is-marked-requires
+    returns
+    is-sensitive-requires
+    returns-2
+    is-sensitive-requires-2
+    returns-3)
