@@ -1,5 +1,7 @@
 pub mod LeftLaws
 pub mod LineTexts
+pub mod ReaderLaws
+pub mod ReaderParts
 pub mod ReadRoom
 pub mod Answers
 pub mod LoadLaws

@@ -1,5 +1,5 @@
 // What the two programs print of the bytes on standard input, written to a lent store: the expansion of the program that the bytes
-// are, and the trace of its run. lines.rt prints lines of numbers.
+// are, and the trace of its run. reader.rt reads the lines of a text, lines.rt prints lines of numbers.
 ghost use mathlib.Core.Path.{_≡_};
 ghost use mathlib.Core.List.{[], _∷_};
 ghost use Prim.Native.Nat.{_*_, _≤_};
@@ -13,10 +13,12 @@ ghost use Rattle.programs.specs.Loading.{loadOutcome, mostNumbers};
 ghost use Rattle.programs.specs.Running.{runText, endedText};
 use crate::lines::ROW_WIDTH;
 use crate::lines::write_lines;
+use crate::reader::read_lines;
 use coding::LINE_WIDTH;
 use model::Answer;
 
 mod lines;
+mod reader;
 
 // The most bytes of an input.
 const INPUT_SIZE: usize = 4096;
@@ -54,7 +56,7 @@ fn load(input: &[u8], listing: &mut [u16]) -> Answer
         return Answer::Refused { number: 8, line: 0 };
     }
     let mut store = store_room();
-    let got = text::read(input, &mut store);
+    let got = read_lines(input, &mut store);
     let Answer::Count(n) = got else {
         return got;
     };

@@ -1,12 +1,15 @@
 -- Numbers written to a store, one list after another and at its front. Assumes nothing.
-use Prim.Native.Nat.{ℕ, suc, _+_, _≤_}
+use Prim.Native.Nat.{ℕ, suc, _+_, _*_, _/_, _≤_, _<_}
 use mathlib.Core.Path.{_≡_, ap, _∙_}
 use mathlib.Core.List.{List, [], _∷_, _++_}
 use native.Mathlib.Omega.{arith}
 use native.Mathlib.Nat.{add-zero, zero-add}
 use lib.ListN.{length, set, drop}
 use lib.Seq.{sets, sets-eq}
+use borrow.Author.Tests.{lt-ltb}
 use Rattle.model.specs.Answers.{atFront}
+use Rattle.model.specs.Limits.{lineWidth}
+use Rattle.text.specs.Lines.{kept}
 
 pub sets-append : (l : List ℕ) (i : ℕ) (x y : List ℕ) → sets (sets l i x) (i + length x) y ≡ sets l i (x ++ y)
 sets-append l i [] y = ap (λ (k : ℕ). sets l k y) (add-zero i)
@@ -16,3 +19,8 @@ sets-append l i (a ∷ x) y =
 
 pub sets-front : (l x : List ℕ) → length x ≤ length l → sets l 0 x ≡ atFront x l
 sets-front l x h = sets-eq x l 0 (omega arith) ∙ ap (λ (k : ℕ). x ++ drop k l) (zero-add (length x))
+
+-- a line that there is room for
+pub kept-fits : (l : List ℕ) (n : ℕ) (x : List ℕ) → n < length l / lineWidth → kept l n x ≡ sets l (lineWidth * n) x
+unfolding kept
+kept-fits l n x h = rw (lt-ltb n (length l / lineWidth) h)

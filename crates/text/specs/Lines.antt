@@ -1,7 +1,12 @@
 -- What the code's answer for a line means, in the model's terms.
 -- Assumes nothing.
+use mathlib.Core.Bool.{cond}
 use mathlib.Core.List.{List, [], _∷_}
-use Prim.Native.Nat.{ℕ}
+use Prim.Native.Nat.{ℕ, _*_, _/_}
+use lib.Dec.{ltb}
+use lib.ListN.{length}
+use lib.Seq.{sets}
+use Rattle.model.specs.Limits.{lineWidth}
 use Rattle.model.specs.Stored as stored
 use Rattle.text.specs.declared.Stored.{Stored}
 use Rattle.text.specs.declared.Parsed.{Parsed}
@@ -19,3 +24,7 @@ meaning (Refused k) = stored.wrong k
 unfoldable pub refusalOf : Parsed → ℕ
 refusalOf (Line l) = 0
 refusalOf (Refused k) = k
+
+-- the numbers of line n put into a store, where it has room for the line
+unfoldable pub kept : List ℕ → ℕ → List ℕ → List ℕ
+kept store n line = cond (ltb n (length store / lineWidth)) (sets store (lineWidth * n) line) store

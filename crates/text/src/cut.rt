@@ -5,7 +5,7 @@ ghost use lib.ListN.{length, drop};
 ghost use Rattle.model.specs.Text.{upTo, countOf};
 
 // How many bytes stand before the first c, or all of them.
-pub(crate) fn find(s: &[u8], c: u8) -> usize
+pub fn find(s: &[u8], c: u8) -> usize
     ensures { λ r. ⌜ (r ≡ length (upTo c (now (s .entry)))) × (r ≤ length (now (s .entry))) ⌝ }
 {
     let mut i: usize = 0;

@@ -8,12 +8,12 @@ ghost use Rattle.model.specs.Answers.{report, outcome};
 ghost use Rattle.model.specs.Limits.{maxLines};
 ghost use Rattle.model.specs.Stored.{linesFrom};
 ghost use Rattle.model.specs.Text.{spellLine, frontLine, readOutcome, writeOutcome};
-ghost use Rattle.text.specs.Lines.{meaning, numbersOf};
+ghost use Rattle.text.specs.Lines.{meaning, numbersOf, kept};
 ghost use Rattle.text.specs.Writing.{Wrote, isRefusal};
 
-mod cut;
+pub mod cut;
 mod fields;
-mod line;
+pub mod line;
 pub mod printing;
 mod size;
 
@@ -74,6 +74,15 @@ fn keep(store: &mut [u16], at: usize, l: Stored)
     store[at + 3] = l.first;
     store[at + 4] = l.second;
     store[at + 5] = l.target;
+}
+
+// Stores the numbers of a line as line n of a store, where there is room for it.
+pub fn keep_at(store: &mut [u16], n: usize, l: Stored)
+    ensures { λ _. ⌜ now (store .exit) ≡ kept (now (store .entry)) n (numbersOf l) ⌝ }
+{
+    if n < store.len() / LINE_WIDTH {
+        keep(store, LINE_WIDTH * n, l);
+    }
 }
 
 // Reads the lines of a text into a store. Each line is read from the front, and the rest of the text is handed on as a part.

@@ -89,7 +89,7 @@ pub(crate) fn front(text: &[u8], n: usize) -> Parsed
 }
 
 // The number that a line is refused with.
-pub(crate) fn refusal(p: Parsed) -> u8
+pub fn refusal(p: Parsed) -> u8
     ensures { λ r. ⌜ r ≡ refusalOf p ⌝ }
 {
     match p {

@@ -12,17 +12,17 @@ returns c = too-long (c .before .before .before .args .input .now) (c .before .b
 store-room-requires : tie.Need-store-room-requires
 store-room-requires c κs = search needs
 
-slice-aggregate-read : tie.Need-slice-aggregate-read
-slice-aggregate-read c = search needs
+slice-aggregate-read-lines : tie.Need-slice-aggregate-read-lines
+slice-aggregate-read-lines c = search needs
 
-read-requires : tie.Need-read-requires
-read-requires c κs = search needs
+read-lines-requires : tie.Need-read-lines-requires
+read-lines-requires c κs = search needs
 
 enum-known-got : tie.Need-enum-known-got
 enum-known-got c = search needs
 
 returns-2 : tie.Need-returns-2
-returns-2 c = read-refused (c .before .before .before .before .before .before .before .before .args .input .now) (c .before .before .before .before .store-room .result) (c .before .before .read .last .1 .0) (c .before .before .read .result) (c .before .before .before .before .before .if1 .left) (c .before .before .before .before .store-room .ensures) (c .before .before .read .ensures) (c .before .before .before .before .before .before .before .before .args .listing .now) (c .match .keys2)
+returns-2 c = read-refused (c .before .before .before .before .before .before .before .before .args .input .now) (c .before .before .before .before .store-room .result) (c .before .before .read-lines .last .1 .0) (c .before .before .read-lines .result) (c .before .before .before .before .before .if1 .left) (c .before .before .before .before .store-room .ensures) (c .before .before .read-lines .ensures) (c .before .before .before .before .before .before .before .before .args .listing .now) (c .match .keys2)
 
 cast-end : tie.Need-cast-end
 cast-end c = search needs
@@ -31,10 +31,10 @@ mul-end : tie.Need-mul-end
 mul-end c = search needs
 
 array-share-prefix-store : tie.Need-array-share-prefix-store
-array-share-prefix-store c = read-fits (c .before .before .before .before .before .before .before .before .before .before .args .input .now) (c .before .before .before .before .before .before .store-room .result) (c .before .before .before .before .read .last .1 .0) (c .before .before .before .before .read .result) (c .before .before .before .before .before .before .before .if1 .left) (c .before .before .before .before .before .before .store-room .ensures) (c .before .before .before .before .read .ensures) (c .before .got .given .0 .0) (c .before .got .given .1)
+array-share-prefix-store c = read-fits (c .before .before .before .before .before .before .before .before .before .before .args .input .now) (c .before .before .before .before .before .before .store-room .result) (c .before .before .before .before .read-lines .last .1 .0) (c .before .before .before .before .read-lines .result) (c .before .before .before .before .before .before .before .if1 .left) (c .before .before .before .before .before .before .store-room .ensures) (c .before .before .before .before .read-lines .ensures) (c .before .got .given .0 .0) (c .before .got .given .1)
 
 slice-aggregate-expand : tie.Need-slice-aggregate-expand
-slice-aggregate-expand c = sym (length-take-le _ _ (read-fits (c .before .before .before .before .before .before .before .before .before .before .before .args .input .now) (c .before .before .before .before .before .before .before .store-room .result) (c .before .before .before .before .before .read .last .1 .0) (c .before .before .before .before .before .read .result) (c .before .before .before .before .before .before .before .before .if1 .left) (c .before .before .before .before .before .before .before .store-room .ensures) (c .before .before .before .before .before .read .ensures) (c .before .before .got .given .0 .0) (c .before .before .got .given .1)))
+slice-aggregate-expand c = sym (length-take-le _ _ (read-fits (c .before .before .before .before .before .before .before .before .before .before .before .args .input .now) (c .before .before .before .before .before .before .before .store-room .result) (c .before .before .before .before .before .read-lines .last .1 .0) (c .before .before .before .before .before .read-lines .result) (c .before .before .before .before .before .before .before .before .if1 .left) (c .before .before .before .before .before .before .before .store-room .ensures) (c .before .before .before .before .before .read-lines .ensures) (c .before .before .got .given .0 .0) (c .before .before .got .given .1)))
 
 expand-requires : tie.Need-expand-requires
 expand-requires c κs = search needs
@@ -43,7 +43,7 @@ same-length : tie.Need-same-length
 same-length c = search needs
 
 returns-3 : tie.Need-returns-3
-returns-3 c = c .before .before .expand .ensures ∙ read-expands (c .before .before .before .before .before .before .before .before .before .before .before .before .before .before .before .args .input .now) (c .before .before .before .before .before .before .before .before .before .before .before .store-room .result) (c .before .before .before .before .before .before .before .before .before .read .last .1 .0) (c .before .before .before .before .before .before .before .before .before .read .result) (c .before .before .before .before .before .before .before .before .before .before .before .before .if1 .left) (c .before .before .before .before .before .before .before .before .before .before .before .store-room .ensures) (c .before .before .before .before .before .before .before .before .before .read .ensures) (c .before .before .before .before .before .before .got .given .0 .0) (c .before .before .before .before .before .before .got .given .1) (c .before .before .before .before .before .before .before .before .before .before .before .before .before .before .before .args .listing .now) (c .before .before .before .before .before .before .before .before .before .before .before .before .before .before .before .pre)
+returns-3 c = c .before .before .expand .ensures ∙ read-expands (c .before .before .before .before .before .before .before .before .before .before .before .before .before .before .before .args .input .now) (c .before .before .before .before .before .before .before .before .before .before .before .store-room .result) (c .before .before .before .before .before .before .before .before .before .read-lines .last .1 .0) (c .before .before .before .before .before .before .before .before .before .read-lines .result) (c .before .before .before .before .before .before .before .before .before .before .before .before .if1 .left) (c .before .before .before .before .before .before .before .before .before .before .before .store-room .ensures) (c .before .before .before .before .before .before .before .before .before .read-lines .ensures) (c .before .before .before .before .before .before .got .given .0 .0) (c .before .before .before .before .before .before .got .given .1) (c .before .before .before .before .before .before .before .before .before .before .before .before .before .before .before .args .listing .now) (c .before .before .before .before .before .before .before .before .before .before .before .before .before .before .before .pre)
 
 pub load-spec : {M : Type 1} → statement M
 load-spec =
@@ -51,8 +51,8 @@ load-spec =
     (tie.spec
     returns
     store-room-requires
-    slice-aggregate-read
-    read-requires
+    slice-aggregate-read-lines
+    read-lines-requires
     enum-known-got
     returns-2
     cast-end
