@@ -1,4 +1,4 @@
-// Demand 3 of what runs. specs/EntryClaims states both claims of the calls of `expand`, `to_image`, `from_image` and `run`, proofs/EntryRuns
+// 'The runs of demand 3' of document 01, of what runs. specs/EntryClaims states both claims of the calls of `expand`, `to_image`, `from_image` and `run`, proofs/EntryRuns
 // proves them, and the functions here, which call these entry points, promise them.
 ghost use mathlib.Core.Path.{_≡_};
 ghost use mathlib.Core.List.{[], _∷_};

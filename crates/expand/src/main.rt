@@ -1,4 +1,4 @@
-// The first program: reads program text from standard input, and prints its expansion or the refusal. What it prints is the contract
+// The first of the two programs of document 01: reads program text from standard input, and prints its expansion or the refusal. What it prints is the contract
 // of programs::print_expansion; here it is only read and written.
 ghost use mathlib.Core.Path.{_≡_};
 ghost use lib.ListN.{length};

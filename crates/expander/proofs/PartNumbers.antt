@@ -1,25 +1,30 @@
 -- The numbers that are written: of a line, of a register, of a literal's code; and what a mark's number tells.
 -- Assumes nothing.
 use mathlib.Core.Path.{_≡_, refl, sym, ap, _∙_}
+use mathlib.Core.Bool.{true}
 use mathlib.Core.List.{[], _∷_}
 use Prim.Native.Nat.{ℕ, _+_, _-_, _%_, _≤_, _<_}
 use native.Mathlib.Nat.{mod-eq-of-lt}
 use native.Mathlib.Omega.{arith}
+use lib.Dec.{lt→ltb}
 use borrow.Author.Tests.{eq-eqb, ne-eqb}
 use Rattle.model.specs.declared.Mark.{Mark}
 use Rattle.model.specs.declared.Mark.the-variants.{Unmarked, Marked}
 use Rattle.model.specs.declared.Opcode.{Opcode}
 use Rattle.model.specs.declared.Operand.the-variants.{Literal, Register}
 use Rattle.model.specs.declared.Target.{Target}
+use Rattle.model.specs.Lines.{operandRight}
 use Rattle.model.specs.Code.{code}
 use Rattle.model.specs.Stored.{literals, registers, markOf, operandOf, markCode, opcodeCode, operandCode, targetCode}
 use Rattle.model.specs.Expansion.{coded}
-use Rattle.model.proofs.Forms.{literal, register, by-form, operand-number}
+use Rattle.model.proofs.Forms.{literal, by-form, operand-number}
+use Rattle.model.proofs.StoredLaws.{operand-there}
 use Rattle.coding.proofs.Codes.{mark-fits, opcode-fits}
 use Rattle.expander.specs.Writes.{encoded, lineWith}
 
 pub register-number : (n : ℕ) → n < 32 → operandOf (registers + n) ≡ Register n
-register-number n h = register (registers + n) (omega arith) (omega arith) ∙ ap Register (omega arith)
+unfolding operandRight
+register-number n h = operand-there true (Register n) (lt→ltb n 32 h) .same
 
 -- a number of 16 bits is stored as it is
 operand-stored : (n : ℕ) → n < 65536 → n ≡ operandCode (operandOf n) % 65536

@@ -1,5 +1,6 @@
-// The mark check and the expansion of stored programs. marks.rt has the conditions of a line, macros.rt the lines that a line becomes,
-// starts.rt the starts of the lines' parts, writing.rt the parts in a lent store.
+// 'Code, tables, macros' of document 01, the macros: the mark check (conditions 9 to 16) and the expansion (17) of stored programs.
+// marks.rt has the conditions of a line, macros.rt the lines that a line becomes, starts.rt the starts of the lines' parts, writing.rt
+// the parts in a lent store.
 ghost use mathlib.Core.Path.{_≡_};
 ghost use mathlib.Core.List.{[], _∷_};
 ghost use Rattle.model.specs.Answers.{report, outcome};

@@ -19,8 +19,9 @@ fn put_part(out: &mut [u16], at: usize, program: &[u16], i: usize, starts: &[u16
     let n = coding::numbers_at(program, i);
     let o = coding::opcode_of(n[1]);
     if n[0] == 0 {
-        let t = starts::new_target(starts, n[5]);
-        macros::put_line(out, at, Mark::Unmarked, o, n[2], n[3], n[4], t);
+        let target = n[5];
+        let start = starts::new_target(starts, target);
+        macros::put_line(out, at, Mark::Unmarked, o, n[2], n[3], n[4], start);
     } else {
         macros::put_macro(out, at, o, n[2], macros::coded(n[3]), macros::coded(n[4]));
     }

@@ -1,4 +1,5 @@
-// Images of bit states, and the way back: conditions 18 and 19, then a store of 544 bytes, place by place.
+// 'Code, tables, macros' of document 01, the tables and the images of bit states, and the way back: conditions 18 and 19, then a store of
+// 544 bytes, place by place.
 ghost use mathlib.Core.Path.{_≡_};
 ghost use mathlib.Core.Bool.{cond, _||_};
 ghost use mathlib.Core.List.{[], _∷_};

@@ -1,4 +1,4 @@
-// The machine: what a line reads, makes and writes, one step with its trace row, and a run of steps.
+// 'One step' of document 01: what a line reads, makes and writes, one step with its trace row, and a run of steps (conditions 18, 20).
 // A step works on the stored numbers themselves, by the tests that decode them, and makes no line.
 // Reading and writing are total: past the end of a state 0 is read and nothing written, so no operand has to be in range.
 ghost use mathlib.Core.Path.{_≡_};

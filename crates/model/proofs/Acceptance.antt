@@ -22,7 +22,7 @@ use Rattle.model.specs.Places.{Public, Sensitive, kind, kindOf, isPublic
 use Rattle.model.specs.Lines.{fills, operandRight, isLiteral, correct, AllCorrect}
 use Rattle.model.specs.Marks.{isReserved, hasSensitiveBase, isNoBit, hasMacro, holds10, holds11, holds12, holds13, holds14, holds15, holds16, markFault, firstBad, marksOf, Accepted}
 use Rattle.model.proofs.TestLaws.{below, is-true, and-both}
-use Rattle.model.proofs.StoredLaws.{correct-fields, counted-count, never-counted}
+use Rattle.model.proofs.StoredLaws.{correct-fields, counted-count, counted-if, counted-unless}
 use Rattle.model.proofs.PlaceLaws.{public-register, sensitive-register, public-cell, sensitive-cell}
 use Rattle.model.proofs.Operands.{Base, SensitivePlace, SensitiveArgument, PublicOperand}
 
@@ -36,19 +36,11 @@ unfoldable pub AllRight : ℕ → List Line → Type 0
 AllRight n [] = Unit {0}
 AllRight n (l ∷ ls) = T (correct l) × (markFault n l ≡ 0) × AllRight n ls
 
-if-passed : (t : Bool) (a : Report) (k i n : ℕ) → cond t a (refused k i) ≡ counted n → (t ≡ true) × (a ≡ counted n)
-if-passed true a k i n e = (refl, e)
-if-passed false a k i n e = absurd (never-counted e)
-
-unless-passed : (t : Bool) (a : Report) (k i n : ℕ) → cond t (refused k i) a ≡ counted n → (t ≡ false) × (a ≡ counted n)
-unless-passed true a k i n e = absurd (never-counted e)
-unless-passed false a k i n e = (refl, e)
-
 right-from : (n i m : ℕ) (p : List Line) → AllCorrect p → firstBad n i p ≡ counted m → AllRight n p × (m ≡ n)
 unfolding firstBad AllRight
 right-from n i m [] h e = (tt, sym (counted-count e))
 right-from n i m (l ∷ p) h e =
-    let w = if-passed (eqb (markFault n l) 0) (firstBad n (i + 1) p) (markFault n l) i m e in
+    let w = counted-if (eqb (markFault n l) 0) (firstBad n (i + 1) p) (markFault n l) i m e in
     let r = right-from n (i + 1) m p (h .1) (w .1) in
     ((h .0, eqb-true (markFault n l) 0 (w .0), r .0), r .1)
 
@@ -60,7 +52,7 @@ pub record MarksRight (p : List Line) (n : ℕ) : Type 0 where
 pub marks-right : (p : List Line) (n : ℕ) → AllCorrect p → marksOf p ≡ counted n → MarksRight p n
 unfolding marksOf
 marks-right p n h e =
-    let w = unless-passed (ltb maxAccepted (length p)) (firstBad (length p) 0 p) 9 0 n e in
+    let w = counted-unless (ltb maxAccepted (length p)) (firstBad (length p) 0 p) 9 0 n e in
     let r = right-from (length p) 0 n p h (w .1) in
     record { count = r .1; few = ltb-false maxAccepted (length p) (w .0); right = r .0 }
 
@@ -87,7 +79,7 @@ three x y z h =
     let g = nor-T x y (f .0) in
     (g .0, g .1, f .1)
 
-pub cond-zero : (b : Bool) (c m : ℕ) → 0 < c → cond b c m ≡ 0 → T (not b) × (m ≡ 0)
+cond-zero : (b : Bool) (c m : ℕ) → 0 < c → cond b c m ≡ 0 → T (not b) × (m ≡ 0)
 cond-zero true c m h e = absurd (omega arith)
 cond-zero false c m h e = (tt, e)
 
@@ -158,16 +150,16 @@ public-operand b (TableCell x k) f r s p = r
 -- ---- lines
 
 -- none of the conditions holds
-record Clear (n : ℕ) (l : Line) : Type 0 where
-  c10 : T (not (holds10 l))
-  c11 : T (not (holds11 l))
-  c12 : T (not (holds12 l))
-  c13 : T (not (holds13 l))
-  c14 : T (not (holds14 l))
-  c15 : T (not (holds15 l))
-  c16 : T (not (holds16 n l))
+pub record Clear (n : ℕ) (l : Line) : Type 0 where
+  pub c10 : T (not (holds10 l))
+  pub c11 : T (not (holds11 l))
+  pub c12 : T (not (holds12 l))
+  pub c13 : T (not (holds13 l))
+  pub c14 : T (not (holds14 l))
+  pub c15 : T (not (holds15 l))
+  pub c16 : T (not (holds16 n l))
 
-clear : (n : ℕ) (l : Line) → markFault n l ≡ 0 → Clear n l
+pub clear : (n : ℕ) (l : Line) → markFault n l ≡ 0 → Clear n l
 unfolding markFault
 clear n l e =
     let h10 = cond-zero (holds10 l) 10 _ (omega arith) e in

@@ -26,7 +26,7 @@ use Rattle.model.specs.Expansion.{coded, move, load, scale, combine, fet
 use Rattle.model.specs.Marks.{isAbove, holds10, holds11, holds12, holds13, holds14, holds15, holds16, markFault, marksOf, markCheck, Accepted, firstBad}
 use Rattle.model.proofs.TestLaws.{and-both, both-and}
 use Rattle.model.proofs.Parts.{joined-length}
-use Rattle.model.proofs.Acceptance.{cond-zero, AllRight, marks-right, accepted-right}
+use Rattle.model.proofs.Acceptance.{clear, AllRight, marks-right, accepted-right}
 use Rattle.model.proofs.StoredLaws.{CheckAnswer, accepts, refuses, check-answer, program-checked, never-counted, length-lines, whole-lines, whole-check, correct-fields}
 
 -- ---- the code of a bit, by whether it is 0
@@ -304,15 +304,8 @@ expansion-within p = joined-within (start p) (length (expand p)) (λ k. omega (a
 -- ---- starts that agree up to the line count give the same expansion
 
 none-above : (n : ℕ) (l : Line) → markFault n l ≡ 0 → T (not (isAbove n (l .target)))
-unfolding markFault holds16
-none-above n l e =
-    let h10 = cond-zero (holds10 l) 10 _ (omega arith) e in
-    let h11 = cond-zero (holds11 l) 11 _ (omega arith) (h10 .1) in
-    let h12 = cond-zero (holds12 l) 12 _ (omega arith) (h11 .1) in
-    let h13 = cond-zero (holds13 l) 13 _ (omega arith) (h12 .1) in
-    let h14 = cond-zero (holds14 l) 14 _ (omega arith) (h13 .1) in
-    let h15 = cond-zero (holds15 l) 15 _ (omega arith) (h14 .1) in
-    cond-zero (holds16 n l) 16 0 (omega arith) (h15 .1) .0
+unfolding holds16
+none-above n l e = clear n l e .c16
 
 module _ (f g : ℕ → ℕ) (n : ℕ) (same : (k : ℕ) → k ≤ n → f k ≡ g k) where
   moved-same : (t : Target) → T (not (isAbove n t)) → newTarget f t ≡ newTarget g t

@@ -12,7 +12,6 @@ use Rattle.model.specs.declared.Mark.{Mark}
 use Rattle.model.specs.declared.Mark.the-variants.{Unmarked, Marked}
 use Rattle.model.specs.declared.Line.{Line}
 use Rattle.model.specs.Expansion.{partOf, part, size, start, joined, expand}
-use Rattle.model.specs.Claims.{Ends}
 
 -- a part's length is the line's size, whatever the starts
 pub part-size : (f : ℕ → ℕ) (l : Line) → length (part f l) ≡ size l
@@ -67,6 +66,7 @@ joined-length f (l ∷ p) zero h = absurd (not-suc-le-zero h)
 joined-length f (l ∷ p) (suc k) h =
     ap₂ (λ (x y : ℕ). x + y) (sym (part-size f l)) (joined-length f p k (le-of-suc-le-suc h)) ∙ sym (length-append (part f l) (joined f p))
 
-pub start-past : Ends
+-- the start of a source line at or past the line count is the expansion's end
+pub start-past : (p : List Line) (k : ℕ) → length p ≤ k → start p k ≡ length (expand p)
 unfolding expand
 start-past p k h = joined-length (start p) p k h

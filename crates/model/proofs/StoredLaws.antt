@@ -96,33 +96,33 @@ operand-there false (TableCell r k) h = absurd h
 operand-there true (Literal n) h =
     let c : ℕ = literals + n in
     let l : n ≤ 255 = leb→le n 255 h in
-    record { same = rw (le-ltb c literals (omega arith), lt-ltb c registers (omega arith)) (ap Literal (omega arith)); filled = lt-ltb 0 c (omega arith); range = omega arith }
+    record { same = literal c (omega arith) (omega arith) ∙ ap Literal (omega arith); filled = lt-ltb 0 c (omega arith); range = omega arith }
 operand-there true (Register n) h =
     let c : ℕ = registers + n in
     let l : n < 32 = ltb→lt n 32 h in
-    record { same = rw (le-ltb c literals (omega arith), le-ltb c registers (omega arith), lt-ltb c cells (omega arith)) (ap Register (omega arith)); filled = lt-ltb 0 c (omega arith); range = omega arith }
+    record { same = register c (omega arith) (omega arith) ∙ ap Register (omega arith); filled = lt-ltb 0 c (omega arith); range = omega arith }
 operand-there true (Cell n) h =
     let c : ℕ = cells + n in
     let l : n < 512 = ltb→lt n 512 h in
-    record { same = rw (le-ltb c literals (omega arith), le-ltb c registers (omega arith), le-ltb c cells (omega arith), lt-ltb c publics (omega arith)) (ap Cell (omega arith)); filled = lt-ltb 0 c (omega arith); range = omega arith }
+    record { same = cell c (omega arith) (omega arith) ∙ ap Cell (omega arith); filled = lt-ltb 0 c (omega arith); range = omega arith }
 operand-there true (PublicCell r k) h =
     let c : ℕ = publics + 128 * r + k in
     let w = and-both (ltb r 32) (ltb k 128) h in
     let l : r < 32 = ltb→lt r 32 (w .0) in
     let m : k < 128 = ltb→lt k 128 (w .1) in
-    record { same = rw (le-ltb c literals (omega arith), le-ltb c registers (omega arith), le-ltb c cells (omega arith), le-ltb c publics (omega arith), lt-ltb c sensitives (omega arith)) (ap₂ PublicCell (omega arith) (omega arith)); filled = lt-ltb 0 c (omega arith); range = omega arith }
+    record { same = public-cell c (omega arith) (omega arith) ∙ ap₂ PublicCell (omega arith) (omega arith); filled = lt-ltb 0 c (omega arith); range = omega arith }
 operand-there true (SensitiveCell r k) h =
     let c : ℕ = sensitives + 128 * r + k in
     let w = and-both (ltb r 32) (ltb k 128) h in
     let l : r < 32 = ltb→lt r 32 (w .0) in
     let m : k < 128 = ltb→lt k 128 (w .1) in
-    record { same = rw (le-ltb c literals (omega arith), le-ltb c registers (omega arith), le-ltb c cells (omega arith), le-ltb c publics (omega arith), le-ltb c sensitives (omega arith), lt-ltb c tables (omega arith)) (ap₂ SensitiveCell (omega arith) (omega arith)); filled = lt-ltb 0 c (omega arith); range = omega arith }
+    record { same = sensitive-cell c (omega arith) (omega arith) ∙ ap₂ SensitiveCell (omega arith) (omega arith); filled = lt-ltb 0 c (omega arith); range = omega arith }
 operand-there true (TableCell r k) h =
     let c : ℕ = tables + 256 * r + k in
     let w = and-both (ltb r 32) (ltb k 256) h in
     let l : r < 32 = ltb→lt r 32 (w .0) in
     let m : k < 256 = ltb→lt k 256 (w .1) in
-    record { same = rw (le-ltb c literals (omega arith), le-ltb c registers (omega arith), le-ltb c cells (omega arith), le-ltb c publics (omega arith), le-ltb c sensitives (omega arith), le-ltb c tables (omega arith)) (ap₂ TableCell (omega arith) (omega arith)); filled = lt-ltb 0 c (omega arith); range = omega arith }
+    record { same = table-cell c (omega arith) ∙ ap₂ TableCell (omega arith) (omega arith); filled = lt-ltb 0 c (omega arith); range = omega arith }
 
 pub record TargetCodes (must : Bool) (t : Target) : Type 0 where
   pub same : targetOf (targetCode t) ≡ t
@@ -483,11 +483,12 @@ counted-count e = cc
 pub never-counted : {k i n : ℕ} → refused k i ≡ counted n → ⊥
 never-counted e = let z : _≡_ {A = ℕ} 0 1 = cc in omega arith
 
-counted-if : (t : Bool) (a : Report) (k i n : ℕ) → cond t a (refused k i) ≡ counted n → (t ≡ true) × (a ≡ counted n)
+-- what is counted at the end passed each test on the way
+pub counted-if : (t : Bool) (a : Report) (k i n : ℕ) → cond t a (refused k i) ≡ counted n → (t ≡ true) × (a ≡ counted n)
 counted-if true a k i n e = (refl, e)
 counted-if false a k i n e = absurd (never-counted e)
 
-counted-unless : (t : Bool) (a : Report) (k i n : ℕ) → cond t (refused k i) a ≡ counted n → (t ≡ false) × (a ≡ counted n)
+pub counted-unless : (t : Bool) (a : Report) (k i n : ℕ) → cond t (refused k i) a ≡ counted n → (t ≡ false) × (a ≡ counted n)
 counted-unless true a k i n e = absurd (never-counted e)
 counted-unless false a k i n e = (refl, e)
 

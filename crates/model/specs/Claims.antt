@@ -46,10 +46,6 @@ pub record Follows (p : List Line) (k n : ℕ) (s : State) : Type 0 where
 abbrev pub Correspondence : Type 0
 Correspondence = (p : List Line) → Accepted p → (k n : ℕ) (s : State) → BitState s → Follows p k n s
 
--- the start of a source line at or past the line count is the expansion's end
-abbrev pub Ends : Type 0
-Ends = (p : List Line) (k : ℕ) → length p ≤ k → start p k ≡ length (expand p)
-
 -- demand 3 is one claim
 abbrev pub DemandThree : Type 0
 DemandThree = EqualTraces × Correspondence

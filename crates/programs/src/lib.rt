@@ -1,5 +1,5 @@
-// What the two programs print of the bytes on standard input, written to a lent store: the expansion of the program that the bytes
-// are, and the trace of its run. reader.rt reads the lines of a text, lines.rt prints lines of numbers.
+// 'The two programs' of document 01: what they print of the bytes on standard input, written to a lent store, the expansion of the
+// program that the bytes are, and the trace of its run. reader.rt reads the lines of a text, lines.rt prints lines of numbers.
 ghost use mathlib.Core.Path.{_≡_};
 ghost use mathlib.Core.List.{[], _∷_};
 ghost use Prim.Native.Nat.{_*_, _≤_};

@@ -1,4 +1,5 @@
-// The reader and the writer of program text: any bytes to stored lines, six numbers to a line, and a stored program to its text.
+// 'Line form' of document 01, the reader and the writer of program text: any bytes to stored lines, six numbers to a line (conditions 1
+// to 8), and a stored program to its text (7, 3 to 6, 17).
 ghost use mathlib.Core.Path.{_≡_};
 ghost use Prim.Native.Nat.{_+_, _*_, _≤_};
 ghost use mathlib.Core.List.{[], _∷_, flatMap};

@@ -1,4 +1,4 @@
-// The second program: reads program text from standard input, and prints the trace of its expansion or the refusal. What it prints
+// The second of the two programs of document 01: reads program text from standard input, and prints the trace of its expansion or the refusal. What it prints
 // is the contract of programs::print_trace; here it is only read and written.
 ghost use mathlib.Core.Path.{_≡_};
 ghost use lib.ListN.{length};

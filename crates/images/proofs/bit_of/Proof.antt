@@ -1,5 +1,5 @@
 -- `images::bit_of` meets its contract. By its callees' promises. Assumes nothing.
-use Rattle.images.proofs.Tests.{tests}
+use Rattle.coding.proofs.Tests.{tests}
 use Rattle.images.proofs.bit_of.Statement.{statement}
 use Rattle.images.proofs.bit_of.Tie as tie
 

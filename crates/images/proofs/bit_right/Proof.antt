@@ -1,5 +1,5 @@
 -- `images::bit_right` meets its contract. Its tests are the definition's, in the same order. Assumes nothing.
-use Rattle.images.proofs.Tests.{tests}
+use Rattle.coding.proofs.Tests.{tests}
 use Rattle.model.specs.Images.{bitRight}
 use Rattle.model.specs.Places.{kind}
 use Rattle.images.proofs.bit_right.Statement.{statement}

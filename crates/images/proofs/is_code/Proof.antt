@@ -1,6 +1,6 @@
 -- `images::is_code` meets its contract. Its tests are the definition's, in the same order. Assumes nothing.
 use Rattle.model.specs.Code.{code}
-use Rattle.images.proofs.Tests.{tests}
+use Rattle.coding.proofs.Tests.{tests}
 use Rattle.images.proofs.is_code.Statement.{statement}
 use Rattle.images.proofs.is_code.Tie as tie
 

@@ -20,8 +20,8 @@ opcode-of-requires c κs = search needs
 array-read-if1 : tie.Need-array-read-if1
 array-read-if1 c = search needs
 
-array-read-new-target : tie.Need-array-read-new-target
-array-read-new-target c = search needs
+array-read-target : tie.Need-array-read-target
+array-read-target c = search needs
 
 new-target-requires : tie.Need-new-target-requires
 new-target-requires c κs = search needs
@@ -84,7 +84,7 @@ put-part-spec =
     array-read-opcode-of
     opcode-of-requires
     array-read-if1
-    array-read-new-target
+    array-read-target
     new-target-requires
     array-read-put-line
     array-read-put-line-2
