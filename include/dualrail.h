@@ -1,10 +1,14 @@
 /* Dual-rail expander and trace machine: the proved library, for C.
  *
  * Build target/staticlib/libdualrail.a with `rt staticlib dualrail` and link it. Nothing allocates and nothing outside the lent memory is
- * touched; an empty slice may have any pointer. Lengths count elements. docs/STORED-LINES.md lays down the numbers of a stored line.
+ * touched; an empty slice may have any pointer. The slices of one call must not overlap. Lengths count elements. docs/STORED-LINES.md
+ * lays down the numbers of a stored line, docs/LANGUAGE.md lists the refusals.
+ *
+ * Room that is always enough: 13 lines of expansion for each line, 34 bytes of text for each line, 6 numbers of trace for each step of
+ * the budget. A state has 544 bytes.
  *
  * An answer is one number. Of all functions but dualrail_run: number * 2^32 + value, where number 0 is success and value its count, and
- * any other number is a refusal of document 01 and value its line. Of dualrail_run: ending * 2^32 + counter * 2^16 + steps, ending 0
+ * any other number is a refusal and value its line. Of dualrail_run: ending * 2^32 + counter * 2^16 + steps, ending 0
  * halted and 1 spent, or, refused, number * 2^48 + line. A refusal leaves all lent memory as it was, except that a refused reading
  * leaves the lines before the bad one in the store.
  */

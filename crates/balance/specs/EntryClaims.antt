@@ -1,5 +1,6 @@
--- Demand 3 of what runs. `expandOutcome`, `toImageOutcome`, `fromImageOutcome` and `runOutcome` are what the promises of `expand`, `to_image`,
--- `from_image` and `run` say of every call, so a hypothesis below is a call that was not refused. Assumes nothing.
+-- Demand 3 of what runs. `expandOutcome`, `toImageOutcome`, `fromImageOutcome` and `runOutcome` are what the promises of
+-- `expand`, `to_image`, `from_image` and `run` say of every call, so a hypothesis below is a call that was not refused. Assumes
+-- nothing.
 use mathlib.Core.Path.{_≡_}
 use mathlib.Core.List.{List, [], _∷_}
 use Prim.Native.Nat.{ℕ, _*_, _≤_}

@@ -1,5 +1,5 @@
-// 'The runs of demand 3' of document 01, of what runs. specs/EntryClaims states both claims of the calls of `expand`, `to_image`, `from_image` and `run`, proofs/EntryRuns
-// proves them, and the functions here, which call these entry points, promise them.
+// 'The runs of demand 3' of document 01, of what runs. specs/EntryClaims states both claims of the calls of `expand`, `to_image`,
+// `from_image` and `run`, proofs/EntryRuns proves them, and the functions here, which call these entry points, promise them.
 ghost use mathlib.Core.Path.{_≡_};
 ghost use mathlib.Core.List.{[], _∷_};
 ghost use Rattle.model.specs.Answers.{report, outcome};

@@ -1,19 +1,15 @@
--- The numbers at a line of a store, and conditions 5 and 6 as tests on them. That the tests are the model's is shown in proofs/Shapes and proofs/Faults.
--- Assumes nothing.
+-- The numbers at a line of a store, and conditions 5 and 6 as tests on them. That the tests are the model's is shown in
+-- proofs/Shapes and proofs/Faults. Assumes nothing.
 use mathlib.Core.Bool.{Bool, cond, not, _&&_}
 use mathlib.Core.List.{List, [], _∷_}
-use Prim.Native.Nat.{ℕ, _+_, _*_}
+use Prim.Native.Nat.{ℕ}
 use lib.Dec.{ltb, eqb}
-use lib.ListN.{getD}
-use Rattle.model.specs.Limits.{lineWidth}
 use Rattle.model.specs.Lines.{isLiteral}
-use Rattle.model.specs.Stored.{operandOf, operands, targets}
+use Rattle.model.specs.Stored.{operandOf, operands, targets, atLine}
 
 -- the six numbers at line i
 abbrev pub numbersAt : List ℕ → ℕ → List ℕ
-numbersAt p i =
-    getD p (lineWidth * i) 0 ∷ getD p (lineWidth * i + 1) 0 ∷ getD p (lineWidth * i + 2) 0 ∷ getD p (lineWidth * i + 3) 0
-    ∷ getD p (lineWidth * i + 4) 0 ∷ getD p (lineWidth * i + 5) 0 ∷ []
+numbersAt p i = atLine (λ m o d a b t. m ∷ o ∷ d ∷ a ∷ b ∷ t ∷ []) p i
 
 -- w where a field is filled
 unfoldable pub bitOf : ℕ → Bool → ℕ

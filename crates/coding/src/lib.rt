@@ -13,16 +13,13 @@ ghost use Rattle.model.specs.Stored.{markCode, opcodeCode, operandCode, targetC
 ghost use Rattle.model.specs.Stored.{sameFilled, parsedNumbers, fault, faultAt, programCheck};
 ghost use Rattle.coding.specs.Fields.{numbersAt, bitOf, shapeOf, inRange};
 use model::Answer;
+use model::LINE_WIDTH;
 use model::Line;
+use model::MAX_LINES;
 use model::Mark;
 use model::Opcode;
 use model::Operand;
 use model::Target;
-
-// The numbers of a stored line, and the most lines of a stored program.
-pub const LINE_WIDTH: usize = 6;
-
-pub const MAX_LINES: usize = 16384;
 
 // How many numbers there are for a mark, an opcode, an operand and a target.
 pub const MARKS: u16 = 2;

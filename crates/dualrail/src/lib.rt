@@ -11,6 +11,7 @@ ghost use Rattle.model.specs.Run.{runOutcome};
 ghost use Rattle.dualrail.specs.Packing.{packed, packedRun};
 use model::Answer;
 
+// The entry points below but `run` give no ending, and `run` gives no count: these arms are what the definition says of them.
 fn pack(answer: Answer) -> u64
     ensures { λ r. ⌜ r ≡ packed (report answer) ⌝ }
 {

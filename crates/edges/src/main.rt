@@ -4,8 +4,9 @@
 // say how a case is written. Every function here is proved safe and ending; that the answers are right is the contract of what it calls.
 ghost use Prim.Native.Nat.{_-_, _≤_};
 ghost use lib.ListN.{length};
-use coding::LINE_WIDTH;
 use model::Answer;
+use model::LINE_WIDTH;
+use model::STATE_SIZE;
 
 // The fields of a case, in their order.
 const NAME: usize = 0;
@@ -24,10 +25,8 @@ const AFTER: usize = 6;
 
 const TEXT: usize = 7;
 
-const STATE_SIZE: usize = 544;
-
 // A state with a byte too many.
-const STATE_ROOM: usize = 545;
+const STATE_ROOM: usize = STATE_SIZE + 1;
 
 // A program with a line too many.
 const PROGRAM_ROOM: usize = 98310;
@@ -392,8 +391,8 @@ fn makes_bits(line: &[u8], state: &[u8], bits: &mut [u8]) -> bool {
 
 // ---- the cases
 
-// Makes the call that a case names; the first letter tells them apart. The arrays come in with their sizes, so that a proof of their lengths
-// does not have to count them.
+// Makes the call that a case names; the first letter tells them apart. The arrays come in with their sizes, so that a proof of their
+// lengths does not have to count them.
 fn comes_out_on(
     line: &[u8],
     program: &[u16],

@@ -1,21 +1,30 @@
-// The first of the two programs of document 01: reads program text from standard input, and prints its expansion or the refusal. What it prints is the contract
-// of programs::print_expansion; here it is only read and written.
+// The first of the two programs of document 01: reads program text from standard input, and prints its expansion or the refusal. What
+// it prints is the contract of programs::print_expansion; here it is only read and written.
 ghost use mathlib.Core.Path.{_≡_};
+ghost use Prim.Native.Nat.{_+_, _*_};
 ghost use lib.ListN.{length};
+ghost use Rattle.model.specs.Limits.{longest, maxAccepted};
+ghost use Rattle.model.specs.Programs.{inputSize};
 use model::Answer;
+use model::LONGEST;
+use model::MAX_ACCEPTED;
 
-// Room for one byte more than the programs read.
-fn input_room() -> [u8; 4097]
-    ensures { λ r. ⌜ length r ≡ 4097 ⌝ }
+// Room for one byte more than the programs read, so that a longer input is told.
+const INPUT_ROOM: usize = programs::INPUT_SIZE + 1;
+
+fn input_room() -> [u8; INPUT_ROOM]
+    ensures { λ r. ⌜ length r ≡ inputSize + 1 ⌝ }
 {
-    [0u8; 4097]
+    [0u8; INPUT_ROOM]
 }
 
-// Room for the text of every expansion: 13 lines for each of 1,024, of 34 bytes each.
-fn output_room() -> [u8; 452608]
-    ensures { λ r. ⌜ length r ≡ 452608 ⌝ }
+// Room for the text of every expansion: each line expands to 13 lines at most, of 34 bytes each.
+const OUTPUT_ROOM: usize = 34 * LONGEST * MAX_ACCEPTED;
+
+fn output_room() -> [u8; OUTPUT_ROOM]
+    ensures { λ r. ⌜ length r ≡ 34 * longest * maxAccepted ⌝ }
 {
-    [0u8; 452608]
+    [0u8; OUTPUT_ROOM]
 }
 
 fn main() {
@@ -23,6 +32,7 @@ fn main() {
     let n = io::read_full(0, &mut input);
     let mut output = output_room();
     let answer = programs::print_expansion(&input[..n], &mut output);
+    // The room is enough for every text (proofs/TextSizes of programs), so 17 is never answered.
     let Answer::Count(size) = answer else {
         return;
     };

@@ -14,7 +14,7 @@ use Rattle.model.specs.declared.Answer.{Answer}
 use Rattle.model.specs.declared.Answer.the-variants.{Count, Halted, Spent, Refused}
 use Rattle.model.specs.Answers.{done, report, outcome, counted, refused}
 use Rattle.model.specs.Stored.{codes, lineCount, lines, programCheck}
-use Rattle.model.specs.Expansion.{expandOutcome, start, joined, expand}
+use Rattle.model.specs.Expansion.{expandOutcome, start, joined, expand, written}
 use Rattle.model.specs.Limits.{maxAccepted, longest}
 use Rattle.model.specs.Marks.{marksOf, markCheck, Accepted}
 use Rattle.model.proofs.StoredLaws.{length-lines, codes-length}
@@ -22,7 +22,7 @@ use Rattle.model.proofs.Acceptance.{accepted-right}
 use Rattle.model.proofs.ExpansionLaws.{expand-length, expansion-most, expansion-correct, joined-same, mark-accepted, MarkAnswer, counts, turnsDown, mark-answer}
 use Rattle.coding.proofs.Programs.{no-ending}
 use Rattle.expander.specs.Starts.{lookedUp, Starts}
-use Rattle.expander.specs.Writes.{put, written}
+use Rattle.expander.specs.Writes.{put}
 use Rattle.expander.proofs.StoreWrites.{stored-correct}
 use Rattle.expander.proofs.StartTable.{starts-found, starts-last}
 
@@ -100,7 +100,7 @@ module _ (p starts out : List ℕ) (A : Accepted (lines p)) (S : Starts starts (
 -- ---- the expansion of any stored program
 
 pub expand-stops : (p out : List ℕ) (a : Answer) → NoCount a → report a ≡ markCheck p → outcome (report a) (out ∷ []) ≡ expandOutcome p out
-unfolding expandOutcome
+unfolding expandOutcome written
 expand-stops p out (Count n) k e = absurd (counts-not n k)
 expand-stops p out (Halted counter steps) k e = absurd (no-ending-marked p 0 counter steps e)
 expand-stops p out (Spent counter steps) k e = absurd (no-ending-marked p 1 counter steps e)

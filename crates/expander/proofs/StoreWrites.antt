@@ -2,12 +2,11 @@
 -- Assumes nothing.
 use mathlib.Core.Path.{_≡_, refl, sym, ap, ap₂, _∙_}
 use mathlib.Core.List.{List, [], _∷_, _++_, flatMap, append-assoc, append-nil}
-use mathlib.Core.Option.{some}
-use Prim.Native.Nat.{ℕ, zero, suc, _+_, _*_, _≤_, _<_}
+use Prim.Native.Nat.{ℕ, _+_, _*_, _≤_}
 use native.Mathlib.Numerals.{add-one, add-two, add-three, add-four, add-five}
 use native.Mathlib.Omega.{arith}
-use lib.ListN.{length, getD, getElem?, set, take, drop, length-append, take-append-drop, length-drop}
-use lib.Seq.{sets-eq, take-at, drop-at, drop-drop, length-take-le, take-all}
+use lib.ListN.{length, set, take, drop, length-append, take-append-drop, length-drop}
+use lib.Seq.{sets-eq, take-at, drop-at, drop-drop, length-take-le}
 use Rattle.model.specs.declared.Line.{Line}
 use Rattle.model.specs.Stored.{codes}
 use Rattle.model.proofs.TestLaws.{is-true}

@@ -1,4 +1,4 @@
--- Lines written into a store, and the last step of an expansion: 17 where the store has fewer lines.
+-- Lines written into a store.
 -- Assumes nothing.
 use mathlib.Core.Bool.{cond}
 use mathlib.Core.List.{List, [], _∷_, _++_, map, flatMap}
@@ -25,11 +25,3 @@ lineWith m o d a b t = record { mark = m; opcode = o; destination = operandOf d;
 unfoldable pub put : List ℕ → ℕ → List Line → List ℕ
 unfolding flatMap
 put out k ls = take (lineWidth * k) out ++ flatMap encoded ls ++ drop (lineWidth * (k + length ls)) out
-
--- lines at the front of a store, or 17
-unfoldable pub written : List Line → List ℕ → Outcome
-unfolding flatMap
-written ls out =
-    cond (ltb (lineCount out) (length ls))
-    (outcome (refused 17 0) (out ∷ []))
-    (outcome (counted (length ls)) (atFront (flatMap codes ls) out ∷ []))

@@ -6,10 +6,10 @@ ghost use mathlib.Core.List.{[], _∷_};
 ghost use Rattle.model.specs.Answers.{report, outcome};
 ghost use Rattle.model.specs.Stored.{lines};
 ghost use Rattle.model.specs.Marks.{markCheck, Accepted};
-ghost use Rattle.model.specs.Expansion.{expandOutcome, expand as expansionOf};
-ghost use Rattle.expander.specs.Writes.{written};
-use coding::LINE_WIDTH;
+ghost use Rattle.model.specs.Expansion.{expandOutcome, expand as expansionOf, written};
 use model::Answer;
+use model::LINE_WIDTH;
+use starts::STARTS;
 
 mod macros;
 mod marks;
@@ -33,7 +33,7 @@ fn write_expansion(program: &[u16], out: &mut [u16]) -> Answer
     ensures { λ r. ⌜ outcome (report r) (now (out .exit) ∷ []) ≡ written (expansionOf (lines (now (program .entry)))) (now (out .entry)) ⌝ }
 {
     let count = program.len() / LINE_WIDTH;
-    let mut starts = [0u16; 1025];
+    let mut starts = [0u16; STARTS];
     starts::fill_starts(program, &mut starts);
     let total = starts[count];
     if out.len() / LINE_WIDTH < (total as usize) {

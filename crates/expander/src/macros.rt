@@ -9,7 +9,7 @@ ghost use Rattle.model.specs.declared.Target.{Target};
 ghost use Rattle.model.specs.Stored.{targetCode, operandOf, lineAt};
 ghost use Rattle.model.specs.Expansion.{coded, markedLine, move, load, scale, combine, writeBack, lookup, negate, copy, macro, size};
 ghost use Rattle.expander.specs.Writes.{lineWith, put};
-use coding::LINE_WIDTH;
+use model::LINE_WIDTH;
 use model::Mark;
 use model::Opcode;
 

@@ -4,21 +4,19 @@ ghost use mathlib.Core.Path.{_≡_};
 ghost use mathlib.Core.Bool.{false, cond, _||_};
 ghost use Rattle.model.specs.Answers.{report};
 ghost use Rattle.model.specs.Places.{kind, kindOf, isPublic, isSensitive};
-ghost use Rattle.model.specs.Stored.{markOf, opcodeOf, operandOf, targetOf, lineOf, lineAt, lines};
+ghost use Rattle.model.specs.Stored.{markOf, operandOf, targetOf, lineOf, lineAt, lines};
 ghost use Rattle.model.specs.Marks.{isReserved, hasSensitiveBase, isNoBit, hasMacro, isAbove, isMarked};
 ghost use Rattle.model.specs.Marks.{holds10, holds11, holds12, holds13, holds14, holds15, holds16, markFault, marksOf};
 use coding::CELLS;
-use coding::LINE_WIDTH;
 use coding::LITERALS;
 use coding::PUBLICS;
 use coding::REGISTERS;
 use coding::SENSITIVES;
 use coding::TABLES;
 use model::Answer;
+use model::LINE_WIDTH;
+use model::MAX_ACCEPTED;
 use model::Opcode;
-
-// The most lines of an accepted program.
-pub const MAX_ACCEPTED: usize = 1024;
 
 // ---- what the conditions ask of a mark, a place, an operand, an opcode and a target
 

@@ -1,17 +1,21 @@
 // The starts of the lines' parts: added up once, then looked up.
 ghost use mathlib.Core.Path.{_≡_};
-ghost use Prim.Native.Nat.{_%_, _≤_};
+ghost use Prim.Native.Nat.{_+_, _%_, _≤_};
 ghost use lib.ListN.{length};
 ghost use Rattle.model.specs.Limits.{maxAccepted};
 ghost use Rattle.model.specs.Stored.{targetOf, targetCode, lineCount, lines};
 ghost use Rattle.model.specs.Expansion.{newTarget};
 ghost use Rattle.expander.specs.Starts.{lookedUp, Starts};
 use super::macros;
-use coding::LINE_WIDTH;
+use model::LINE_WIDTH;
+use model::MAX_ACCEPTED;
+
+// How many starts there are at most: one for each line, and one for the end.
+pub const STARTS: usize = MAX_ACCEPTED + 1;
 
 // The starts of the lines and of the end.
-pub fn fill_starts(program: &[u16], starts: &mut [u16; 1025])
-    requires { ⌜ (lineCount (now program) ≤ maxAccepted) × (length (now starts) ≡ 1025) ⌝ }
+pub fn fill_starts(program: &[u16], starts: &mut [u16; STARTS])
+    requires { ⌜ (lineCount (now program) ≤ maxAccepted) × (length (now starts) ≡ maxAccepted + 1) ⌝ }
     ensures { λ r. ⌜ Starts (now (starts .exit)) (lines (now (program .entry))) (lineCount (now (program .entry))) ⌝ }
 {
     let count = program.len() / LINE_WIDTH;
@@ -26,19 +30,15 @@ pub fn fill_starts(program: &[u16], starts: &mut [u16; 1025])
 }
 
 // The start of line t, 0 past the last.
-fn start_at(starts: &[u16; 1025], t: u16) -> u16
+fn start_at(starts: &[u16; STARTS], t: u16) -> u16
     ensures { λ r. ⌜ r ≡ lookedUp (now (starts .entry)) t ⌝ }
 {
-    if t < 1025 {
-        let k = t as usize;
-        starts[k]
-    } else {
-        0
-    }
+    let k = t as usize;
+    if k < STARTS { starts[k] } else { 0 }
 }
 
 // The number of a target whose line is replaced by the start of that line's part, as a store of 16 bits takes it.
-pub fn new_target(starts: &[u16; 1025], t: u16) -> u16
+pub fn new_target(starts: &[u16; STARTS], t: u16) -> u16
     ensures { λ r. ⌜ r ≡ targetCode (newTarget (lookedUp (now (starts .entry))) (targetOf t)) % 65536 ⌝ }
 {
     if t == 0 {

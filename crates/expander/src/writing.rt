@@ -8,17 +8,19 @@ ghost use Rattle.expander.specs.Starts.{lookedUp};
 ghost use Rattle.expander.specs.Writes.{put};
 use super::macros;
 use super::starts;
-use coding::LINE_WIDTH;
+use super::starts::STARTS;
+use model::LINE_WIDTH;
 use model::Mark;
 
 // The part of line i from line `at` on: an unmarked line itself, a marked one its macro.
-fn put_part(out: &mut [u16], at: usize, program: &[u16], i: usize, starts: &[u16; 1025])
+fn put_part(out: &mut [u16], at: usize, program: &[u16], i: usize, starts: &[u16; STARTS])
     requires { ⌜ 6 * (at + size (lineAt (now program) i)) ≤ length (now out) ⌝ }
     ensures { λ r. ⌜ now (out .exit) ≡ put (now (out .entry)) at (part (lookedUp (now (starts .entry))) (lineAt (now (program .entry)) i)) ⌝ }
 {
     let n = coding::numbers_at(program, i);
+    let mark = n[0];
     let o = coding::opcode_of(n[1]);
-    if n[0] == 0 {
+    if mark == 0 {
         let target = n[5];
         let start = starts::new_target(starts, target);
         macros::put_line(out, at, Mark::Unmarked, o, n[2], n[3], n[4], start);
@@ -28,7 +30,7 @@ fn put_part(out: &mut [u16], at: usize, program: &[u16], i: usize, starts: &[u16
 }
 
 // The parts of all lines, from the front on.
-pub fn put_parts(program: &[u16], starts: &[u16; 1025], out: &mut [u16])
+pub fn put_parts(program: &[u16], starts: &[u16; STARTS], out: &mut [u16])
     requires { ⌜ 6 * start (lines (now program)) (lineCount (now program)) ≤ length (now out) ⌝ }
     ensures { λ r. ⌜ now (out .exit) ≡ put (now (out .entry)) 0 (joined (lookedUp (now (starts .entry))) (lines (now (program .entry)))) ⌝ }
 {

@@ -10,9 +10,7 @@ ghost use Rattle.model.specs.Code.{code, page};
 ghost use Rattle.model.specs.Images.{imageAt, backAt, image as imageOf, back as backOf};
 ghost use Rattle.model.specs.Images.{bitRight, imageRight, every, toImageOutcome, fromImageOutcome};
 use model::Answer;
-
-// The bytes of a state.
-const STATE_SIZE: usize = 544;
+use model::STATE_SIZE;
 
 // The tables of codes: entry 4 * code(a) + code(b) is the code of a op b, and the twelve other entries are 0.
 const AND: [u8; 16] = [0, 0, 0, 0, 0, 1, 2, 0, 0, 2, 2, 0, 0, 0, 0, 0];
@@ -208,7 +206,7 @@ pub fn to_image(bits: &[u8], image: &mut [u8]) -> Answer
     }
     if bits_right(bits) {
         put_image(bits, image);
-        return Answer::Count(544);
+        return Answer::Count(STATE_SIZE as u32);
     }
     Answer::Refused {
         number: 19,
@@ -234,7 +232,7 @@ pub fn from_image(image: &[u8], bits: &mut [u8]) -> Answer
     }
     if places_right(image) {
         put_back(image, bits);
-        return Answer::Count(544);
+        return Answer::Count(STATE_SIZE as u32);
     }
     Answer::Refused {
         number: 19,

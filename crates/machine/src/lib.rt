@@ -15,25 +15,21 @@ ghost use Rattle.machine.specs.Loop.{cellPlace, placeOf, argumentOf, row
 use model::Answer;
 use model::Mark;
 use model::Opcode;
+use model::ROW_WIDTH;
+use model::STATE_SIZE;
 use steps::Run;
 
 mod steps;
 
-// The bytes of a state.
-pub const STATE_SIZE: usize = 544;
-
-// The numbers of a trace row.
-pub const ROW_WIDTH: usize = 6;
-
 // The Hamming weight.
-pub fn weight(n: u16) -> u16
+fn weight(n: u16) -> u16
     ensures { λ r. ⌜ r ≡ weight n ⌝ }
 {
     u16::count_ones(n) as u16
 }
 
 // The Hamming distance.
-pub fn distance(x: u8, y: u8) -> u16
+fn distance(x: u8, y: u8) -> u16
     ensures { λ r. ⌜ r ≡ distance x y ⌝ }
 {
     u8::count_ones(x ^ y) as u16
@@ -65,7 +61,7 @@ fn times(x: u8, y: u8) -> u8
 }
 
 // What a line writes; public addition wraps at 256.
-pub fn alu(mark: Mark, opcode: Opcode, x: u8, y: u8) -> u8
+fn alu(mark: Mark, opcode: Opcode, x: u8, y: u8) -> u8
     ensures { λ r. ⌜ r ≡ alu mark opcode x y ⌝ }
 {
     match opcode {
@@ -122,14 +118,14 @@ fn advanced(jumps: bool, target: u16, counter: u16) -> u16
 }
 
 // The byte at a place, 0 past the end.
-pub fn read(state: &[u8], at: usize) -> u8
+fn read(state: &[u8], at: usize) -> u8
     ensures { λ r. ⌜ r ≡ getD (now (state .entry)) at 0 ⌝ }
 {
     if at < state.len() { state[at] } else { 0 }
 }
 
 // A byte at a place; past the end nothing is written.
-pub fn write(state: &mut [u8], at: usize, byte: u8)
+fn write(state: &mut [u8], at: usize, byte: u8)
     ensures { λ r. ⌜ now (state .exit) ≡ set (now (state .entry)) at byte ⌝ }
 {
     if at < state.len() {

@@ -8,7 +8,7 @@ use Prim.Native.Nat.{ℕ, zero, suc, _+_, _≤_, _<_}
 use native.Mathlib.Omega.{arith}
 use borrow.Author.Tests.{ltb-false, eqb-true}
 use Rattle.model.specs.Limits.{maxAccepted}
-use Rattle.model.specs.Answers.{Report, counted, refused}
+use Rattle.model.specs.Answers.{counted}
 use lib.Dec.{T, eqb, ltb, ltb→lt, nltb→le, leb→le, nleb→lt}
 use lib.ListN.{length, getElem?}
 use Rattle.model.specs.declared.Mark.{Mark}

@@ -53,9 +53,6 @@ decimal-value n h =
     )
     (omega arith)
 
-pub decimal-same : (m n : ℕ) → m < 100000 → n < 100000 → decimal m ≡ decimal n → m ≡ n
-decimal-same m n h g e = sym (decimal-value m h) ∙ ap (valueFrom 0) e ∙ decimal-value n g
-
 -- ---- a digit more: the spelling of ten times v and a digit
 
 -- the digits of two numbers at two powers of ten

@@ -23,7 +23,7 @@ use Rattle.model.specs.Lines.{fills, operandRight, targetRight, isLitera
 use Rattle.model.specs.Stored.{codes, lineCount, lines, programCheck}
 use Rattle.model.specs.Code.{code, andTable, orrTable, xorTable}
 use Rattle.model.specs.Expansion.{coded, move, load, scale, combine, fetch, flip, writeBack, lookup, negate, copy, macro, newTarget, retarget, partOf, part, size, start, joined, expand}
-use Rattle.model.specs.Marks.{isAbove, holds10, holds11, holds12, holds13, holds14, holds15, holds16, markFault, marksOf, markCheck, Accepted, firstBad}
+use Rattle.model.specs.Marks.{isAbove, holds16, markFault, marksOf, markCheck, Accepted, firstBad}
 use Rattle.model.proofs.TestLaws.{and-both, both-and}
 use Rattle.model.proofs.Parts.{joined-length}
 use Rattle.model.proofs.Acceptance.{clear, AllRight, marks-right, accepted-right}

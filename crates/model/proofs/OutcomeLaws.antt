@@ -14,7 +14,7 @@ use Rattle.model.specs.Places.{State}
 use Rattle.model.specs.Stored.{lines, lineCount, codes, programCheck}
 use Rattle.model.specs.Run.{run, answer, runLeaves, runOutcome}
 use Rattle.model.specs.Images.{BitState, image, every, bitRight, carried}
-use Rattle.model.specs.Expansion.{expand, expandOutcome}
+use Rattle.model.specs.Expansion.{expand, expandOutcome, written}
 use Rattle.model.specs.Marks.{markCheck}
 use Rattle.model.proofs.BackLaws.{bits-right}
 
@@ -117,7 +117,7 @@ one-value : {m n : ℕ} → counted m ≡ counted n → m ≡ n
 one-value e = cc
 
 pub expansion-written : (p out : List ℕ) (n : ℕ) (e : List ℕ) → expandOutcome p out ≡ outcome (counted n) (e ∷ []) → Written p out n e
-unfolding expandOutcome
+unfolding expandOutcome written
 expansion-written p out n e h =
     let w = went (markCheck p) _ (out ∷ []) h in
     let w1 = passed-unless (ltb (lineCount out) (length (expand (lines p)))) _ 17 0 (out ∷ []) (w .then) in

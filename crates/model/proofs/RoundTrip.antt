@@ -13,7 +13,7 @@ use Rattle.model.specs.declared.Line.{Line}
 use Rattle.model.specs.Limits.{lineWidth, maxLines}
 use Rattle.model.specs.Answers.{Report, counted, refused, Outcome, outcome, unlessRefused, atFront}
 use Rattle.model.specs.Stored.{codes, lineCount, Parsed, numbers, wrong, lines, programCheck}
-use Rattle.model.specs.Text.{newline, spellLine, past, frontLine, Reading, ends, thenReads, reading, readOutcome, textOf, writeOutcome}
+use Rattle.model.specs.Text.{newline, spellLine, past, frontLine, Reading, ends, thenReads, reading, readOutcome, textOf, writeOutcome, fitted}
 use Rattle.model.specs.Lines.{AllCorrect}
 use Rattle.model.proofs.StoredLaws.{CheckAnswer, accepts, refuses, check-answer, never-counted, counted-count, program-checked, length-lines, codes-length, whole-lines, whole-check}
 use Rattle.model.proofs.ReadingLaws.{lineText, line-text, front-there, past-there, FrontLine, front-back}
@@ -203,7 +203,7 @@ not-written : {j i k : ℕ} {a b : List (List ℕ)} → outcome (refused j i) a 
 not-written e = never-counted (ap (λ (o : Outcome). o .answer) e)
 
 written : (p out : List ℕ) (k : ℕ) (new : List ℕ) → writeOutcome p out ≡ outcome (counted k) (new ∷ []) → Wrote p out k new
-unfolding writeOutcome
+unfolding writeOutcome fitted
 written p out k new e = by (programCheck p) (check-answer p) e refl
   where
     room : (t : Bool) (x : Outcome) → cond t (outcome (refused 17 0) (out ∷ [])) x ≡ outcome (counted k) (new ∷ []) → x ≡ outcome (counted k) (new ∷ [])
@@ -231,7 +231,7 @@ read-after-write p out k new store e h =
 -- a text that was read is written again with the same bytes, wherever there is room for it
 pub write-after-read : (text store : List ℕ) (n : ℕ) (new out : List ℕ) → readOutcome text store ≡ outcome (counted n) (new ∷ []) → length text ≤ length out
     → writeOutcome (take (6 * n) new) out ≡ outcome (counted (length text)) (atFront text out ∷ [])
-unfolding writeOutcome
+unfolding writeOutcome fitted
 write-after-read text store n new out e h =
     let s = written-read text store n new e in
     rw (s .right, s .text-is, le-ltb (length out) (length text) h)

@@ -64,9 +64,6 @@ module _ (spell : ℕ → List ℕ) where
       (λ f. let w = spelled-back (i + 1) n s k f in (omega arith, omega arith, w .2))
       (found-or (sameBytes (spell i) s) (spelledFrom spell (i + 1) n s) i k e)
 
-  pub spelled-found : (n : ℕ) (s : List ℕ) (k : ℕ) → spelledFrom spell 0 n s ≡ some k → (k < n) × (spell k ≡ s)
-  spelled-found n s k e = let w = spelled-back 0 n s k e in (omega arith, w .2)
-
   -- where it finds none, none of its range is spelled so
   spelled-none : (i n : ℕ) (s : List ℕ) → spelledFrom spell i n s ≡ none → (k : ℕ) → i ≤ k → k < i + n → spell k ≡ s → ⊥
   unfolding spelledFrom
@@ -280,21 +277,9 @@ module _ (s : List ℕ) (k : ℕ) where
   pub target-exactly : (targetField s .number ≡ some k) ↔ ((k < targets) × (spellTarget (targetOf k) ≡ s))
   target-exactly = spelled-exactly (λ n. spellTarget (targetOf n)) targets target-distinct s k
 
--- ---- the spelling of a stored number, read as a field, is the stored field
+-- ---- the spelling of a stored number is empty where the number is 0
 
 module _ (k : ℕ) where
-  pub mark-read : k < marks → markField (spellMark (markOf k)) .number ≡ some k
-  mark-read h = spelled-there (λ n. spellMark (markOf n)) marks mark-distinct k h
-
-  pub opcode-read : k < opcodes → opcodeField (spellOpcode (opcodeOf k)) .number ≡ some k
-  opcode-read h = spelled-there (λ n. spellOpcode (opcodeOf n)) opcodes opcode-distinct k h
-
-  pub operand-read : k < operands → operandField (spellOperand (operandOf k)) .number ≡ some k
-  operand-read h = spelled-there (λ n. spellOperand (operandOf n)) operands operand-distinct k h
-
-  pub target-read : k < targets → targetField (spellTarget (targetOf k)) .number ≡ some k
-  target-read h = spelled-there (λ n. spellTarget (targetOf n)) targets target-distinct k h
-
   pub operand-filled : k < operands → ltb 0 (length (spellOperand (operandOf k))) ≡ ltb 0 k
   operand-filled h = operand-text (ltb 0 k) (operandOf k) (operand-back k h .right) .filled
 

@@ -1,4 +1,5 @@
--- What an entry point answers, in the paper's numbers and values, and what the stores lent to it hold afterwards.
+-- 'Where each check turns a thing down', the answers: what an entry point answers, in the paper's numbers and values, and what the
+-- stores lent to it hold afterwards.
 -- Assumes nothing.
 use mathlib.Core.List.{List, [], _∷_, _++_}
 use Prim.Native.Nat.{ℕ}

@@ -141,11 +141,15 @@ unfoldable pub expand : List Line → List Line
 unfolding joined start
 expand p = joined (start p) p
 
+-- lines at the front of a store: 17 where it has room for fewer
+unfoldable pub written : List Line → List ℕ → Outcome
+unfolding flatMap
+written ls out =
+    cond (ltb (lineCount out) (length ls))
+    (outcome (refused 17 0) (out ∷ []))
+    (outcome (counted (length ls)) (atFront (flatMap codes ls) out ∷ []))
+
 -- the mark check, then 17 fewer lines than the expansion has
 unfoldable pub expandOutcome : List ℕ → List ℕ → Outcome
-unfolding markCheck expand flatMap
-expandOutcome p out =
-    unlessRefused (markCheck p) (out ∷ [])
-    (cond (ltb (lineCount out) (length (expand (lines p))))
-    (outcome (refused 17 0) (out ∷ []))
-    (outcome (counted (length (expand (lines p)))) (atFront (flatMap codes (expand (lines p))) out ∷ [])))
+unfolding markCheck expand written
+expandOutcome p out = unlessRefused (markCheck p) (out ∷ []) (written (expand (lines p)) out)

@@ -1,4 +1,4 @@
--- The mark check: conditions 9 to 16, and the accepted programs.
+-- 'Where each check turns a thing down', the mark check: conditions 9 to 16, and the accepted programs.
 -- Assumes nothing.
 use mathlib.Core.Path.{_≡_}
 use mathlib.Core.Bool.{Bool, true, false, not, cond, _&&_, _||_}

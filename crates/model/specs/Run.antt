@@ -1,4 +1,4 @@
--- A run from a start counter with a budget of steps, its trace and its answer.
+-- 'One step', the run: from a start counter with a budget of steps, its trace and its answer, and conditions 18 and 20.
 -- Assumes nothing.
 use mathlib.Core.Bool.{cond}
 use mathlib.Core.List.{List, [], _∷_, flatMap}

@@ -1,4 +1,4 @@
--- Stored programs: a line as six numbers in the order of the text's fields, and the check of a whole program, 7 and 3 to 6.
+-- 'Line form', stored programs: a line as six numbers in the order of the text's fields, and the check of a whole program, 7 and 3 to 6.
 -- docs/STORED-LINES.md lays the numbers down. Assumes nothing.
 use mathlib.Core.Bool.{Bool, cond, Bool·beq, _&&_}
 use mathlib.Core.List.{List, [], _∷_}

@@ -189,11 +189,14 @@ unfoldable pub textOf : List ℕ → List ℕ
 unfolding flatMap spellLine
 textOf p = flatMap spellLine (lines p)
 
+-- a text at the front of a store: 17 where it has fewer bytes
+unfoldable pub fitted : List ℕ → List ℕ → Outcome
+fitted text out =
+    cond (ltb (length out) (length text))
+    (outcome (refused 17 0) (out ∷ []))
+    (outcome (counted (length text)) (atFront text out ∷ []))
+
 -- 7, 3 to 6, then 17 fewer bytes than the text has
 unfoldable pub writeOutcome : List ℕ → List ℕ → Outcome
-unfolding programCheck textOf
-writeOutcome p out =
-    unlessRefused (programCheck p) (out ∷ [])
-    (cond (ltb (length out) (length (textOf p)))
-    (outcome (refused 17 0) (out ∷ []))
-    (outcome (counted (length (textOf p))) (atFront (textOf p) out ∷ [])))
+unfolding programCheck textOf fitted
+writeOutcome p out = unlessRefused (programCheck p) (out ∷ []) (fitted (textOf p) out)

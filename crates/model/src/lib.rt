@@ -1,6 +1,20 @@
 // The types of the language, and what every entry point answers. What they mean is said in specs/: every definition of
 // document 01. What is shown of the definitions alone, demand 3 among it, stands in proofs/. There is no entry point here.
 
+// The bounds of document 01, as specs/Limits has them: the numbers of a stored line and of a trace row, the bytes of a state, the most
+// lines of a program and of an accepted one, the most lines that one line expands to.
+pub const LINE_WIDTH: usize = 6;
+
+pub const ROW_WIDTH: usize = 6;
+
+pub const STATE_SIZE: usize = 544;
+
+pub const MAX_LINES: usize = 16384;
+
+pub const MAX_ACCEPTED: usize = 1024;
+
+pub const LONGEST: usize = 13;
+
 // Whether a line handles key bits: u is Unmarked, s is Marked.
 pub enum Mark {
     Unmarked,

@@ -18,7 +18,7 @@ use Rattle.model.proofs.OutcomeLaws.{first-store}
 use Rattle.text.specs.Writing.{Wrote}
 use Rattle.text.proofs.StoreLaws.{sets-front}
 use Rattle.text.proofs.WroteLaws.{wrote-sets}
-use Rattle.programs.specs.Printing.{fitted}
+use Rattle.model.specs.Text.{fitted}
 
 -- what is written, and then more
 wrote-length : {o p : List ℕ} {a b : ℕ} {x : List ℕ} {m : ℕ} → Wrote o p a b x m → (y : List ℕ) → b + length y ≡ a + length (x ++ y)

@@ -15,15 +15,15 @@ use Rattle.model.specs.declared.Line.{Line}
 use Rattle.model.specs.Limits.{lineWidth, longest, maxAccepted, maxLines}
 use Rattle.model.specs.Answers.{Report, done, report, counted, refused, Outcome, outcome, andThen, unlessRefused, atFront}
 use Rattle.model.specs.Stored.{codes, lineCount, lines, programCheck}
-use Rattle.model.specs.Text.{Reading, reading, spellLine, readOutcome, textOf, writeOutcome}
+use Rattle.model.specs.Text.{Reading, reading, spellLine, readOutcome, textOf, writeOutcome, fitted}
 use Rattle.model.specs.Marks.{markCheck, Accepted}
-use Rattle.model.specs.Expansion.{expand, expandOutcome}
+use Rattle.model.specs.Expansion.{expand, expandOutcome, written}
 use Rattle.model.specs.Programs.{inputSize, orRefusal, printed, expandPrints}
 use Rattle.model.proofs.StoredLaws.{counted-count, never-counted, codes-length}
 use Rattle.model.proofs.RoundTrip.{read-outcome, reads-back}
 use Rattle.model.proofs.ExpansionLaws.{expansion-most, expansion-check, expansion-lines, mark-accepted}
 use Rattle.model.proofs.OutcomeLaws.{first-store}
-use Rattle.programs.specs.Printing.{fitted}
+use Rattle.model.specs.Text.{fitted}
 use Rattle.programs.specs.Loading.{mostNumbers, readInput, expansionOf, loadAnswer, loadOutcome}
 use Rattle.programs.proofs.ReadRoom.{room-enough}
 use Rattle.programs.proofs.Answers.{CountOrRefusal, counts, refuses, either, then-answers, reading-answers, check-answers, NoCount, Refusal, no-count-refuses}
@@ -50,7 +50,7 @@ load-outcome input store = refl
 
 expand-outcome : (p out : List ℕ) → expandOutcome p out
     ≡ unlessRefused (markCheck p) (out ∷ []) (cond (ltb (lineCount out) (length (expand (lines p)))) (outcome (refused 17 0) (out ∷ [])) (outcome (counted (length (expand (lines p)))) (atFront (flatMap codes (expand (lines p))) out ∷ [])))
-unfolding expandOutcome
+unfolding expandOutcome written
 expand-outcome p out = refl
 
 pub printed-is : (text : List Line → List ℕ) (input : List ℕ) → printed text input
@@ -212,7 +212,7 @@ expand-prints input = refl
 
 write-outcome : (p out : List ℕ) → writeOutcome p out
     ≡ unlessRefused (programCheck p) (out ∷ []) (cond (ltb (length out) (length (textOf p))) (outcome (refused 17 0) (out ∷ [])) (outcome (counted (length (textOf p))) (atFront (textOf p) out ∷ [])))
-unfolding writeOutcome
+unfolding writeOutcome fitted
 write-outcome p out = refl
 
 text-of : (p : List ℕ) → textOf p ≡ flatMap spellLine (lines p)

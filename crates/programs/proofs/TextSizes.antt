@@ -23,7 +23,7 @@ use Rattle.model.proofs.DecimalLaws.{decimal-5}
 use Rattle.model.proofs.SpellingLaws.{line-34}
 use Rattle.model.proofs.ExpansionLaws.{expansion-most, expansion-correct}
 use Rattle.model.proofs.Runs.{run-zero, stopped, step-run}
-use Rattle.programs.specs.Printing.{fitted}
+use Rattle.model.specs.Text.{fitted}
 use Rattle.programs.specs.Loading.{readInput}
 use Rattle.programs.proofs.Answers.{check-answers}
 use Rattle.programs.proofs.LeftLaws.{all-fits}

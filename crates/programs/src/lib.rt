@@ -8,43 +8,52 @@ ghost use Rattle.model.specs.Answers.{report, outcome, counted};
 ghost use Rattle.model.specs.Limits.{lineWidth, rowWidth};
 ghost use Rattle.model.specs.Stored.{lineCount, programCheck};
 ghost use Rattle.model.specs.Programs.{orRefusal, inputSize, expandPrints, tracePrints, traceBudget};
-ghost use Rattle.programs.specs.Printing.{fitted};
+ghost use Rattle.model.specs.Text.{fitted};
 ghost use Rattle.programs.specs.Loading.{loadOutcome, mostNumbers};
 ghost use Rattle.programs.specs.Running.{runText, endedText};
-use crate::lines::ROW_WIDTH;
 use crate::lines::write_lines;
 use crate::reader::read_lines;
-use coding::LINE_WIDTH;
 use model::Answer;
+use model::LINE_WIDTH;
+use model::LONGEST;
+use model::MAX_ACCEPTED;
+use model::ROW_WIDTH;
+use model::STATE_SIZE;
 
 mod lines;
 mod reader;
 
 // The most bytes of an input.
-const INPUT_SIZE: usize = 4096;
+pub const INPUT_SIZE: usize = 4096;
 
 // The budget of the run.
 const TRACE_BUDGET: u16 = 1000;
 
 // Room for the lines of every input: each line takes a byte or more.
-fn store_room() -> [u16; 24576]
-    ensures { λ r. ⌜ length r ≡ lineWidth * inputSize ⌝ }
-{
-    [0u16; 24576]
-}
+const STORE_ROOM: usize = LINE_WIDTH * INPUT_SIZE;
 
 // Room for every expansion.
-fn listing_room() -> [u16; 79872]
-    ensures { λ r. ⌜ length r ≡ mostNumbers ⌝ }
-{
-    [0u16; 79872]
-}
+const LISTING_ROOM: usize = LINE_WIDTH * LONGEST * MAX_ACCEPTED;
 
 // Room for the rows of every run.
-fn trace_room() -> [u16; 6000]
+const TRACE_ROOM: usize = ROW_WIDTH * (TRACE_BUDGET as usize);
+
+fn store_room() -> [u16; STORE_ROOM]
+    ensures { λ r. ⌜ length r ≡ lineWidth * inputSize ⌝ }
+{
+    [0u16; STORE_ROOM]
+}
+
+fn listing_room() -> [u16; LISTING_ROOM]
+    ensures { λ r. ⌜ length r ≡ mostNumbers ⌝ }
+{
+    [0u16; LISTING_ROOM]
+}
+
+fn trace_room() -> [u16; TRACE_ROOM]
     ensures { λ r. ⌜ length r ≡ rowWidth * traceBudget ⌝ }
 {
-    [0u16; 6000]
+    [0u16; TRACE_ROOM]
 }
 
 // Reads the text of a program and expands it.
@@ -101,8 +110,8 @@ fn write_run(program: &[u16], out: &mut [u8]) -> Answer
     requires { ⌜ programCheck (now program) ≡ counted (lineCount (now program)) ⌝ }
     ensures { λ r. ⌜ outcome (report r) (now (out .exit) ∷ []) ≡ fitted (runText (now (program .entry))) (now (out .entry)) ⌝ }
 {
-    let bits = [0u8; 544];
-    let mut state = [0u8; 544];
+    let bits = [0u8; STATE_SIZE];
+    let mut state = [0u8; STATE_SIZE];
     images::to_image(&bits, &mut state);
     let mut trace = trace_room();
     let ran = machine::run(program, 0, TRACE_BUDGET, &mut state, &mut trace);

@@ -7,14 +7,13 @@ ghost use Rattle.model.specs.Answers.{report, outcome};
 ghost use Rattle.model.specs.Limits.{rowWidth};
 ghost use Rattle.model.specs.Programs.{numbersText};
 ghost use Rattle.text.specs.Writing.{Wrote, printable};
-ghost use Rattle.programs.specs.Printing.{fitted, rowsText, linesText};
+ghost use Rattle.programs.specs.Printing.{rowsText, linesText};
+ghost use Rattle.model.specs.Text.{fitted};
 use model::Answer;
+use model::ROW_WIDTH;
 use text::printing::put;
 use text::printing::put_number;
 use text::printing::put_tagged;
-
-// The numbers of a trace row.
-pub(crate) const ROW_WIDTH: usize = 6;
 
 // The bytes of a word.
 fn put_word(out: &mut [u8], at: usize, word: &[u8]) -> usize

@@ -1,14 +1,13 @@
 -- Marks, opcodes and which fields are filled: the tests of the code give what the model's definitions give. Assumes nothing.
-use Prim.Native.Nat.{ℕ, zero, suc, _+_, _*_, _≤_, _<_}
+use Prim.Native.Nat.{ℕ, _+_, _*_, _<_}
 use mathlib.Core.Bool.{Bool, true, false, cond, _&&_}
 use mathlib.Core.Path.{_≡_, refl, sym, ap, _∙_}
 use mathlib.Core.List.{List, [], _∷_}
 use mathlib.Core.Option.{none, some}
 use native.Mathlib.Omega.{arith}
 use lib.Dec.{T, eqb, ltb}
-use lib.ListN.{length, getD, List·getD-eq-default}
+use lib.ListN.{length, getD}
 use borrow.Author.Tests.{eq-eqb, ne-eqb, eqb-true, eqb-false}
-use Rattle.model.specs.declared.Opcode.the-variants.{Nop, Jmp, Not, Mov, And, Orr, Xor, Lsl, Lsr, Add, Mul, Beq, Bne}
 use Rattle.model.specs.Stored.{opcodeOf, noLiteral}
 use Rattle.model.specs.Text.{sameBytes, spelledFrom, spellMark, spellOpcode, markField}
 use Rattle.model.proofs.TestLaws.{is-true, allBelow, all-below}

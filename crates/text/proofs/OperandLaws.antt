@@ -7,7 +7,7 @@ use mathlib.Core.List.{List, [], _∷_, _++_}
 use mathlib.Core.Logic.{_⊎_, inl, inr, ⊎-elim}
 use mathlib.Core.Option.{some}
 use native.Mathlib.Omega.{arith}
-use lib.ListN.{length}
+use lib.ListN.{length, getD, drop}
 use lib.Dec.{eqb}
 use borrow.Author.Tests.{ne-eqb, lt-ltb, le-ltb, eqb-true, eqb-false}
 use Rattle.model.specs.Limits.{maxLines}
@@ -17,10 +17,17 @@ use Rattle.model.proofs.TestLaws.{below}
 use Rattle.model.proofs.DecimalLaws.{decimal-digits, decimal-some}
 use Rattle.model.proofs.CutLaws.{digits-clean, upTo-clean, past-clean, rejoin, past-none}
 use Rattle.model.proofs.SpellingLaws.{spelled-is}
-use Rattle.text.specs.Fields.{found, readNumber, shift, joined, readIndirect, readKind, readOperand, readTarget}
+use Rattle.text.specs.Fields.{found, readNumber, shift, joined, readIndirect, readKind}
 use Rattle.text.specs.declared.Field.{Field}
 use Rattle.text.specs.declared.Field.the-variants.{Is, Wrong}
 use Rattle.text.proofs.DigitLaws.{never, number-below, number-decimal, decimal-number}
+
+-- a whole operand, and a target
+unfoldable pub readOperand : List ℕ → Field
+readOperand s = cond (eqb (length s) 0) (Is 0) (readKind (getD s 0 0) (drop 1 s))
+
+unfoldable pub readTarget : List ℕ → Field
+readTarget s = cond (eqb (length s) 0) (Is 0) (shift 1 (readNumber (maxLines + 1) s))
 
 -- a field that is not empty
 filled : (c : ℕ) (x : List ℕ) → eqb (length (c ∷ x)) 0 ≡ false

@@ -15,7 +15,7 @@ use Rattle.model.specs.declared.Answer.the-variants.{Count, Halted, Spent, Refu
 use Rattle.model.specs.Limits.{maxLines}
 use Rattle.model.specs.Answers.{report, refused, counted, Outcome, outcome, unlessRefused, atFront}
 use Rattle.model.specs.Stored.{lineAt, lineCount, linesFrom, programCheck}
-use Rattle.model.specs.Text.{spellLine, textOf, writeOutcome}
+use Rattle.model.specs.Text.{spellLine, textOf, writeOutcome, fitted}
 use Rattle.model.proofs.StoredLaws.{CheckAnswer, accepts, refuses, check-answer, program-checked}
 use Rattle.text.specs.Writing.{Wrote, isRefusal}
 use Rattle.text.proofs.WroteLaws.{wrote-sets}
@@ -114,7 +114,7 @@ few-lines {p} a t (refuses j i c) e = absurd (not-refused a t j i (e ∙ c))
 
 module _ (p out : List ℕ) (a : Answer) (e : report a ≡ programCheck p) where
   write-outcome : writeOutcome p out ≡ unlessRefused (report a) (out ∷ []) (cond (ltb (length out) (length (textOf p))) (outcome (refused 17 0) (out ∷ [])) (outcome (counted (length (textOf p))) (atFront (textOf p) out ∷ [])))
-  unfolding writeOutcome
+  unfolding writeOutcome fitted
   write-outcome = rw e
 
   pub write-refused : isRefusal a ≡ true → outcome (report a) (out ∷ []) ≡ writeOutcome p out

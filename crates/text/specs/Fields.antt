@@ -61,9 +61,3 @@ readKind c s =
     (cond (eqb c 37) (shift sensitives (readIndirect 128 s))
     (cond (eqb c 94) (shift tables (readIndirect 256 s))
     Wrong)))))
-
-unfoldable pub readOperand : List ℕ → Field
-readOperand s = cond (eqb (length s) 0) (Is 0) (readKind (getD s 0 0) (drop 1 s))
-
-unfoldable pub readTarget : List ℕ → Field
-readTarget s = cond (eqb (length s) 0) (Is 0) (shift 1 (readNumber (maxLines + 1) s))

@@ -24,11 +24,11 @@ use crate::line::front;
 use crate::line::refusal;
 use crate::printing::put_line;
 use crate::size::text_size;
-use coding::LINE_WIDTH;
-use coding::MAX_LINES;
 use coding::check_program;
 use coding::numbers_at;
 use model::Answer;
+use model::LINE_WIDTH;
+use model::MAX_LINES;
 
 // What reading a field finds: the field's stored number, or that its spelling is wrong.
 pub(crate) enum Field {

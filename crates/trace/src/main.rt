@@ -1,21 +1,27 @@
-// The second of the two programs of document 01: reads program text from standard input, and prints the trace of its expansion or the refusal. What it prints
-// is the contract of programs::print_trace; here it is only read and written.
+// The second of the two programs of document 01: reads program text from standard input, and prints the trace of its expansion or the
+// refusal. What it prints is the contract of programs::print_trace; here it is only read and written.
 ghost use mathlib.Core.Path.{_≡_};
+ghost use Prim.Native.Nat.{_+_, _*_};
 ghost use lib.ListN.{length};
+ghost use Rattle.model.specs.Programs.{inputSize};
 use model::Answer;
 
-// Room for one byte more than the programs read.
-fn input_room() -> [u8; 4097]
-    ensures { λ r. ⌜ length r ≡ 4097 ⌝ }
+// Room for one byte more than the programs read, so that a longer input is told.
+const INPUT_ROOM: usize = programs::INPUT_SIZE + 1;
+
+fn input_room() -> [u8; INPUT_ROOM]
+    ensures { λ r. ⌜ length r ≡ inputSize + 1 ⌝ }
 {
-    [0u8; 4097]
+    [0u8; INPUT_ROOM]
 }
 
 // Room for the text of every trace: 1,000 rows of six numbers, of at most five digits each, and a last line.
-fn output_room() -> [u8; 36013]
-    ensures { λ r. ⌜ length r ≡ 36013 ⌝ }
+const OUTPUT_ROOM: usize = 1000 * 36 + 13;
+
+fn output_room() -> [u8; OUTPUT_ROOM]
+    ensures { λ r. ⌜ length r ≡ 1000 * 36 + 13 ⌝ }
 {
-    [0u8; 36013]
+    [0u8; OUTPUT_ROOM]
 }
 
 fn main() {
@@ -23,6 +29,7 @@ fn main() {
     let n = io::read_full(0, &mut input);
     let mut output = output_room();
     let answer = programs::print_trace(&input[..n], &mut output);
+    // The room is enough for every text (proofs/TextSizes of programs), so 17 is never answered.
     let Answer::Count(size) = answer else {
         return;
     };

@@ -1,4 +1,4 @@
--- `dualrail::dualrail_check` meets its contract. The packed answer and the stores are read off the entry point's promise.
+-- `dualrail::dualrail_check` meets its contract. The packed answer is read off the entry point's promise.
 -- Assumes nothing.
 use mathlib.Core.Path.{ap, _∙_}
 use Rattle.dualrail.specs.Packing.{packed}

@@ -21,6 +21,9 @@ places-right-requires c κs = search needs
 put-back-requires : tie.Need-put-back-requires
 put-back-requires c κs = search needs
 
+cast-t9 : tie.Need-cast-t9
+cast-t9 c = search needs
+
 same-length : tie.Need-same-length
 same-length c = search needs
 
@@ -43,6 +46,7 @@ from-image-spec =
     returns-2
     places-right-requires
     put-back-requires
+    cast-t9
     same-length
     returns-3
     returns-4)

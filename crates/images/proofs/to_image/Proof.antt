@@ -21,6 +21,9 @@ bits-right-requires c κs = search needs
 put-image-requires : tie.Need-put-image-requires
 put-image-requires c κs = search needs
 
+cast-t9 : tie.Need-cast-t9
+cast-t9 c = search needs
+
 same-length : tie.Need-same-length
 same-length c = search needs
 
@@ -43,6 +46,7 @@ to-image-spec =
     returns-2
     bits-right-requires
     put-image-requires
+    cast-t9
     same-length
     returns-3
     returns-4)

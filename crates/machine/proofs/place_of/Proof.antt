@@ -1,4 +1,5 @@
--- `machine::place_of` meets its contract, form by form: the tests are those that decode the number, and cell n is place 32 + n. Assumes nothing.
+-- `machine::place_of` meets its contract, form by form: the tests are those that decode the number, and cell n is place 32 + n.
+-- Assumes nothing.
 use mathlib.Core.Path.{_≡_}
 use Prim.Native.Nat.{_+_}
 use native.Mathlib.Omega.{arith}

@@ -1,4 +1,5 @@
--- `machine::run` meets its contract: each refusal, and the loop over steps. The check of a program answers a count or a refusal alone. Assumes nothing.
+-- `machine::run` meets its contract: each refusal, and the loop over steps. The check of a program answers a count or a refusal
+-- alone. Assumes nothing.
 use mathlib.Core.Path.{_∙_, sym, ap}
 use native.Mathlib.Omega.{arith}
 use borrow.Author.Needs.{needs}

@@ -1,5 +1,5 @@
--- `machine::write_row` meets its contract. The loop's invariant: the first i numbers of the row stand in the store, the rest of it is as it was.
--- The measure is what is left of the row. Assumes nothing.
+-- `machine::write_row` meets its contract. The loop's invariant: the first i numbers of the row stand in the store, the rest of
+-- it is as it was. The measure is what is left of the row. Assumes nothing.
 use mathlib.Core.Path.{_≡_, _∙_, ap}
 use mathlib.Core.List.{List, _++_}
 use Prim.Native.Nat.{ℕ, _≤_, _<_, _+_, _*_, _-_}

@@ -4,7 +4,7 @@ use mathlib.Core.Path.{_∙_, ap, sym}
 use mathlib.Core.List.{List}
 use Prim.Native.Nat.{ℕ}
 use lib.Seq.{length-take-le}
-use Rattle.programs.specs.Printing.{fitted}
+use Rattle.model.specs.Text.{fitted}
 use Rattle.programs.proofs.LoadLaws.{loaded, part-check}
 use Rattle.programs.proofs.RunLaws.{loaded-run, refusal-of-trace}
 use Rattle.programs.proofs.print_trace.Statement.{statement}

@@ -6,7 +6,7 @@ use Prim.Native.Nat.{ℕ}
 use Rattle.model.specs.declared.Answer.{Answer}
 use Rattle.model.specs.Answers.{report}
 use Rattle.model.specs.Programs.{orRefusal}
-use Rattle.programs.specs.Printing.{fitted}
+use Rattle.model.specs.Text.{fitted}
 use Rattle.programs.proofs.LeftLaws.{nothing-fits}
 use Rattle.programs.proofs.LineTexts.{refusal-line}
 use Rattle.programs.proofs.write_refusal.Statement.{statement}

@@ -7,7 +7,7 @@ use mathlib.Core.List.{List}
 use Prim.Native.Nat.{ℕ}
 use native.Mathlib.Omega.{arith}
 use Rattle.model.specs.Answers.{report}
-use Rattle.programs.specs.Printing.{fitted}
+use Rattle.model.specs.Text.{fitted}
 use Rattle.programs.proofs.RunLaws.{endWord, ending, answered, steps-fit, ended-is, never-counts, never-refuses}
 use Rattle.programs.proofs.write_run.Statement.{statement}
 use Rattle.programs.proofs.write_run.Tie as tie

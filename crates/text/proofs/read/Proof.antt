@@ -1,4 +1,5 @@
--- `text::read` meets its contract: what is left to read, with the lines so far, always comes to what the whole text comes to. Assumes nothing.
+-- `text::read` meets its contract: what is left to read, with the lines so far, always comes to what the whole text comes to.
+-- Assumes nothing.
 use Prim.Native.Nat.{ℕ, _-_}
 use mathlib.Core.Path.{refl, sym, ap, _∙_}
 use native.Mathlib.Omega.{arith}

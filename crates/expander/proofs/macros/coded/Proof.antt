@@ -1,5 +1,4 @@
 -- `expander::macros::coded` meets its contract. By the tests that tell a literal. Assumes nothing.
-use native.Mathlib.Omega.{arith}
 use Rattle.model.specs.Expansion.{coded}
 use Rattle.model.proofs.Forms.{empty}
 use Rattle.expander.proofs.PartNumbers.{coded-literal, coded-other}

@@ -1,6 +1,5 @@
 -- `expander::macros::put_line` meets its contract. The six numbers are those of the line. Assumes nothing.
 use native.Mathlib.Omega.{arith}
-use mathlib.Core.Path.{sym, _∙_}
 use lib.ListN.{length-set}
 use Rattle.expander.proofs.PartNumbers.{line-stored}
 use Rattle.expander.proofs.StoreWrites.{one-line}

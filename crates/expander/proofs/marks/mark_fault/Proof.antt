@@ -1,4 +1,5 @@
--- `expander::marks::mark_fault` meets its contract. A condition that holds gives its number, one that does not leaves the rest to the next. Assumes nothing.
+-- `expander::marks::mark_fault` meets its contract. A condition that holds gives its number, one that does not leaves the rest to
+-- the next. Assumes nothing.
 use mathlib.Core.Path.{refl}
 use Rattle.model.specs.Marks.{markFault}
 use Rattle.expander.proofs.MarkWalk.{broken, kept}

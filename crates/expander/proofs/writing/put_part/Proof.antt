@@ -11,14 +11,14 @@ use Rattle.expander.proofs.writing.put_part.Tie as tie
 numbers-at-requires : tie.Need-numbers-at-requires
 numbers-at-requires c κs = search needs
 
+array-read-mark : tie.Need-array-read-mark
+array-read-mark c = search needs
+
 array-read-opcode-of : tie.Need-array-read-opcode-of
 array-read-opcode-of c = search needs
 
 opcode-of-requires : tie.Need-opcode-of-requires
 opcode-of-requires c κs = search needs
-
-array-read-if1 : tie.Need-array-read-if1
-array-read-if1 c = search needs
 
 array-read-target : tie.Need-array-read-target
 array-read-target c = search needs
@@ -81,9 +81,9 @@ put-part-spec =
     tie.close
     (tie.spec
     numbers-at-requires
+    array-read-mark
     array-read-opcode-of
     opcode-of-requires
-    array-read-if1
     array-read-target
     new-target-requires
     array-read-put-line

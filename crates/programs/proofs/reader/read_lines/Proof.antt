@@ -1,4 +1,5 @@
--- `programs::reader::read_lines` meets its contract: what is left to read from the position on, with the lines so far, always comes to what the whole text comes to. Assumes nothing.
+-- `programs::reader::read_lines` meets its contract: what is left to read from the position on, with the lines so far, always
+-- comes to what the whole text comes to. Assumes nothing.
 use Prim.Native.Nat.{ℕ, _-_}
 use mathlib.Core.Path.{refl, ap, _∙_}
 use mathlib.Core.List.{[], _∷_}

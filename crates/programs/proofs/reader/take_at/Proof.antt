@@ -1,5 +1,8 @@
--- `programs::reader::take_at` meets its contract: a walk of its MIR, by hand. A `Reader` is made, asked for its line, and moved on; the position is read from the reader that came back. All that the proof knows of `new`, `line` and `moved` is that each meets its contract.
--- The struct is Copy: what it owns is had twice, for the two calls that take it. In a local of a body MIR erases the lifetime of the struct's type, so a value is shown to have the type at `erased`: what the struct owns does not say the lifetime's name. Assumes nothing.
+-- `programs::reader::take_at` meets its contract: a walk of its MIR, by hand. A `Reader` is made, asked for its line, and moved
+-- on; the position is read from the reader that came back. All that the proof knows of `new`, `line` and `moved` is that each
+-- meets its contract. The struct is Copy: what it owns is had twice, for the two calls that take it. In a local of a body MIR
+-- erases the lifetime of the struct's type, so a value is shown to have the type at `erased`: what the struct owns does not say
+-- the lifetime's name. Assumes nothing.
 use mathlib.Core.Bool.{Bool, true, false, _&&_}
 use mathlib.Core.Path.{_≡_, refl, ap}
 use Prim.Native.Nat.{ℕ, _<_, _^_}

@@ -1,4 +1,5 @@
--- `text::cut::find` meets its contract: the bytes passed and those before the first c in the rest are as many as before the first c. Assumes nothing.
+-- `text::cut::find` meets its contract: the bytes passed and those before the first c in the rest are as many as before the first
+-- c. Assumes nothing.
 use borrow.Author.Needs.{needs}
 use Prim.Native.Nat.{_≤_, _+_, _-_}
 use mathlib.Core.Path.{_≡_}

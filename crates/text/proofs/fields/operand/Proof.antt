@@ -4,10 +4,10 @@ use borrow.Author.Needs.{needs}
 use borrow.Author.Tests.{eq-eqb, ne-eqb}
 use denote.Ref.{now}
 use lib.ListN.{getD}
-use Rattle.text.specs.Fields.{found, readOperand, readKind}
+use Rattle.text.specs.Fields.{found, readKind}
 use Rattle.text.specs.declared.Field.the-variants.{Is}
 use Rattle.text.proofs.PartLaws.{rest-all}
-use Rattle.text.proofs.OperandLaws.{operand-reads}
+use Rattle.text.proofs.OperandLaws.{readOperand, operand-reads}
 use Rattle.text.proofs.fields.operand.Statement.{statement}
 use Rattle.text.proofs.fields.operand.Tie as tie
 

@@ -3,9 +3,9 @@ use mathlib.Core.Path.{_≡_, ap, _∙_}
 use borrow.Author.Needs.{needs}
 use borrow.Author.Tests.{eq-eqb, ne-eqb}
 use denote.Ref.{now}
-use Rattle.text.specs.Fields.{found, readTarget}
+use Rattle.text.specs.Fields.{found}
 use Rattle.text.specs.declared.Field.the-variants.{Is}
-use Rattle.text.proofs.OperandLaws.{target-reads}
+use Rattle.text.proofs.OperandLaws.{readTarget, target-reads}
 use Rattle.text.proofs.fields.target.Statement.{statement}
 use Rattle.text.proofs.fields.target.Tie as tie
 

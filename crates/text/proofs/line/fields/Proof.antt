@@ -1,12 +1,8 @@
 -- `text::line::fields` meets its contract: each field that was read picks the next case of the model's conditions 3 to 6. Assumes nothing.
 use mathlib.Core.Path.{sym, ap, _∙_}
-use native.Mathlib.Omega.{arith}
 use borrow.Author.Needs.{needs}
 use borrow.Author.Tests.{not-true, not-false}
-use denote.Ref.{now}
-use Rattle.model.specs.Stored.{opcodeOf, parsed}
-use Rattle.model.specs.Text.{spellOpcode}
-use Rattle.model.proofs.SpellingLaws.{spelled-back}
+use Rattle.model.specs.Stored.{parsed}
 use Rattle.text.specs.Fields.{found}
 use Rattle.text.proofs.line.fields.Statement.{statement}
 use Rattle.text.proofs.line.fields.Tie as tie

@@ -1,4 +1,5 @@
--- `machine::steps::Run::step` meets its contract: the numbers of the line at the counter, what it does, and its row in the store. Assumes nothing.
+-- `machine::steps::Run::step` meets its contract: the numbers of the line at the counter, what it does, and its row in the store.
+-- Assumes nothing.
 use mathlib.Core.Path.{_≡_}
 use mathlib.Core.List.{List}
 use Prim.Native.Nat.{ℕ, _+_}

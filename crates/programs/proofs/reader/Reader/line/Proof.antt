@@ -1,5 +1,7 @@
--- `programs::reader::Reader::line` meets its contract: a walk of its MIR, by hand. The struct is taken apart, and `step_at` is called on the text and the position. All that the proof knows of `step_at` is that it meets its contract.
--- The struct is Copy: what it owns is had twice, one copy is kept whole for the exit, and of the other what the text owns goes to the callee, beside the lifetime's token, which comes back. Assumes nothing.
+-- `programs::reader::Reader::line` meets its contract: a walk of its MIR, by hand. The struct is taken apart, and `step_at` is
+-- called on the text and the position. All that the proof knows of `step_at` is that it meets its contract. The struct is Copy:
+-- what it owns is had twice, one copy is kept whole for the exit, and of the other what the text owns goes to the callee, beside
+-- the lifetime's token, which comes back. Assumes nothing.
 use mathlib.Core.Path.{_≡_, refl}
 use Prim.Native.Nat.{_<_, _^_}
 use mathlib.Core.List.{[], _∷_}
@@ -19,7 +21,6 @@ use types.Kit.{Given, ‵, raw, _⊛_, ⋆, some, later, _$_, _∵_, !, qed, by,
 use types.Part.{whole, sub, look-in}
 use types.Run.{look, init, forget, stop, fld, from, load, of-opd, and-then, no-more, assigns, land, returns, enter, alloc1, alloc0, params1, pass1, pass0, free1, free0}
 use sound.WpLaws.{FmC, fmOf, WpFn-mono}
-use denote.RattleType.{owns}
 use denote.Laws.{Is, shows}
 use denote.Signature.{namedLft}
 use denote.Steps.{peeks, heard, nothing}

@@ -1,5 +1,8 @@
--- `programs::reader::Reader::moved` meets its contract: a walk of its MIR, by hand. The struct is taken apart, `after` is called on the text and the position, and a struct is made anew of the text and the position that it gave. All that the proof knows of `after` is that it meets its contract.
--- The struct is Copy: what it owns is had three times. One copy is kept whole for the exit, of another what the text owns goes to the callee, and the third, with the facts of the new position in the place of the old one's, is what the result owns. Assumes nothing.
+-- `programs::reader::Reader::moved` meets its contract: a walk of its MIR, by hand. The struct is taken apart, `after` is called
+-- on the text and the position, and a struct is made anew of the text and the position that it gave. All that the proof knows of
+-- `after` is that it meets its contract. The struct is Copy: what it owns is had three times. One copy is kept whole for the
+-- exit, of another what the text owns goes to the callee, and the third, with the facts of the new position in the place of the
+-- old one's, is what the result owns. Assumes nothing.
 use mathlib.Core.Path.{_≡_, refl, ap}
 use Prim.Native.Nat.{ℕ, _<_, _^_}
 use mathlib.Core.List.{[], _∷_}
@@ -20,7 +23,6 @@ use types.Kit.{Given, ‵, raw, _⊛_, ⋆, some, later, _$_, _∵_, !, qed, by,
 use types.Part.{whole, sub, look-in, agg}
 use types.Run.{look, init, forget, stop, fld, from, load, of-opd, and-then, no-more, assigns, land, returns, enter, alloc1, alloc0, params1, pass1, pass0, free1, free0}
 use sound.WpLaws.{FmC, fmOf, WpFn-mono}
-use denote.RattleType.{owns}
 use denote.Laws.{Is, shows}
 use denote.Plain.{uint-makes, uint-lawful}
 use denote.Builtin.{usize}

@@ -1,5 +1,6 @@
--- `programs::reader::Reader::new` meets its contract: a walk of its MIR, by hand. A `Reader` is made of the text and the position passed, in the result's local.
--- A `&[u8]` is Copy, so what it owns is had twice: once for the text at exit, and once inside the result, beside the facts of the position. Assumes nothing.
+-- `programs::reader::Reader::new` meets its contract: a walk of its MIR, by hand. A `Reader` is made of the text and the position
+-- passed, in the result's local. A `&[u8]` is Copy, so what it owns is had twice: once for the text at exit, and once inside the
+-- result, beside the facts of the position. Assumes nothing.
 use mathlib.Core.Path.{refl}
 use Prim.Native.Nat.{ℕ, _<_, _^_}
 use mathlib.Core.List.{List, [], _∷_}
