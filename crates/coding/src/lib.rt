@@ -1,18 +1,21 @@
 // What lines and bits are as numbers. 'Line form' of document 01, stored programs: six numbers to a line and back, conditions 3 to 6 of
 // six numbers, and the check of a whole program (7, 3 to 6). Decoding is total: every number gives some field, and the check says
-// whether the numbers are a line. Last the code of a bit, from 'Code, tables, macros'.
+// whether the numbers are a line. Last the kind of a place, from 'Places of the machine', and the code of a bit, from 'Code, tables,
+// macros'.
 ghost use mathlib.Core.Path.{_≡_};
 ghost use mathlib.Core.List.{map};
 ghost use Prim.Native.Nat.{_%_, _≤_};
 ghost use lib.ListN.{getD};
 ghost use Rattle.model.specs.Answers.{report};
 ghost use Rattle.model.specs.Code.{code};
+ghost use Rattle.model.specs.Places.{kind};
 ghost use Rattle.model.specs.Lines.{filled, fills, isLiteral};
 ghost use Rattle.model.specs.Stored.{markOf, opcodeOf, operandOf, targetOf, lineOf, lineAt};
 ghost use Rattle.model.specs.Stored.{markCode, opcodeCode, operandCode, targetCode, codes};
 ghost use Rattle.model.specs.Stored.{sameFilled, parsedNumbers, fault, faultAt, programCheck};
 ghost use Rattle.coding.specs.Fields.{numbersAt, bitOf, shapeOf, inRange};
 use model::Answer;
+use model::Kind;
 use model::LINE_WIDTH;
 use model::Line;
 use model::MAX_LINES;
@@ -375,6 +378,28 @@ pub fn check_program(program: &[u16]) -> Answer
         i += 1;
     }
     Answer::Count(count as u32)
+}
+
+// The kind of a place, registers first, then cells.
+pub fn kind_at(i: usize) -> Kind
+    ensures { λ r. ⌜ r ≡ kind i ⌝ }
+{
+    if i < 4 {
+        return Kind::Neither;
+    }
+    if i < 16 {
+        return Kind::Public;
+    }
+    if i < 32 {
+        return Kind::Sensitive;
+    }
+    if i < 160 {
+        return Kind::Public;
+    }
+    if i < 288 {
+        return Kind::Sensitive;
+    }
+    Kind::Neither
 }
 
 // Bit 1 is 01, bit 0 is 10.

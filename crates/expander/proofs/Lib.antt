@@ -1,4 +1,4 @@
-pub mod KindTests
+pub mod NumberTests
 pub mod MarkWalk
 pub mod PartNumbers
 pub mod PartSizes

@@ -1,17 +1,14 @@
 -- Lines written into a store.
 -- Assumes nothing.
-use mathlib.Core.Bool.{cond}
-use mathlib.Core.List.{List, [], _∷_, _++_, map, flatMap}
+use mathlib.Core.List.{List, [], _++_, map, flatMap}
 use Prim.Native.Nat.{ℕ, _+_, _*_, _%_}
-use lib.Dec.{ltb}
 use lib.ListN.{length, take, drop}
 use Rattle.model.specs.declared.Mark.{Mark}
 use Rattle.model.specs.declared.Opcode.{Opcode}
 use Rattle.model.specs.declared.Target.{Target}
 use Rattle.model.specs.declared.Line.{Line}
 use Rattle.model.specs.Limits.{lineWidth}
-use Rattle.model.specs.Answers.{Outcome, outcome, counted, refused, atFront}
-use Rattle.model.specs.Stored.{operandOf, codes, lineCount}
+use Rattle.model.specs.Stored.{operandOf, codes}
 
 -- the numbers of a line as a store of 16 bits takes them; those of a correct line are its codes
 abbrev pub encoded : Line → List ℕ

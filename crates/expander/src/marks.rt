@@ -3,7 +3,7 @@
 ghost use mathlib.Core.Path.{_≡_};
 ghost use mathlib.Core.Bool.{false, cond, _||_};
 ghost use Rattle.model.specs.Answers.{report};
-ghost use Rattle.model.specs.Places.{kind, kindOf, isPublic, isSensitive};
+ghost use Rattle.model.specs.Places.{kindOf, isPublic, isSensitive};
 ghost use Rattle.model.specs.Stored.{markOf, operandOf, targetOf, lineOf, lineAt, lines};
 ghost use Rattle.model.specs.Marks.{isReserved, hasSensitiveBase, isNoBit, hasMacro, isAbove, isMarked};
 ghost use Rattle.model.specs.Marks.{holds10, holds11, holds12, holds13, holds14, holds15, holds16, markFault, marksOf};
@@ -14,6 +14,7 @@ use coding::REGISTERS;
 use coding::SENSITIVES;
 use coding::TABLES;
 use model::Answer;
+use model::Kind;
 use model::LINE_WIDTH;
 use model::MAX_ACCEPTED;
 use model::Opcode;
@@ -26,69 +27,46 @@ fn is_marked(m: u16) -> bool
     m != 0
 }
 
-// r4 to r15 and cells 0 to 127.
-fn is_public_place(i: usize) -> bool
-    ensures { λ r. ⌜ r ≡ isPublic (kind i) ⌝ }
+fn is_public(kind: Kind) -> bool
+    ensures { λ r. ⌜ r ≡ isPublic kind ⌝ }
 {
-    if i < 4 {
-        return false;
+    match kind {
+        Kind::Neither => false,
+        Kind::Public => true,
+        Kind::Sensitive => false,
     }
-    if i < 16 {
-        return true;
-    }
-    if i < 32 {
-        return false;
-    }
-    i < 160
 }
 
-// r16 to r31 and cells 128 to 255.
-fn is_sensitive_place(i: usize) -> bool
-    ensures { λ r. ⌜ r ≡ isSensitive (kind i) ⌝ }
+fn is_sensitive(kind: Kind) -> bool
+    ensures { λ r. ⌜ r ≡ isSensitive kind ⌝ }
 {
-    if i < 16 {
-        return false;
+    match kind {
+        Kind::Neither => false,
+        Kind::Public => false,
+        Kind::Sensitive => true,
     }
-    if i < 32 {
-        return true;
-    }
-    if i < 160 {
-        return false;
-    }
-    i < 288
 }
 
-fn is_public(code: u16) -> bool
-    ensures { λ r. ⌜ r ≡ isPublic (kindOf (operandOf code)) ⌝ }
+// The kind of the places that an operand names.
+fn kind_of(code: u16) -> Kind
+    ensures { λ r. ⌜ r ≡ kindOf (operandOf code) ⌝ }
 {
     if code < REGISTERS {
-        return false;
+        return Kind::Neither;
     }
     if code < CELLS {
-        return is_public_place((code - REGISTERS) as usize);
+        return coding::kind_at((code - REGISTERS) as usize);
     }
     if code < PUBLICS {
-        return is_public_place(32 + ((code - CELLS) as usize));
-    }
-    code < SENSITIVES
-}
-
-fn is_sensitive(code: u16) -> bool
-    ensures { λ r. ⌜ r ≡ isSensitive (kindOf (operandOf code)) ⌝ }
-{
-    if code < REGISTERS {
-        return false;
-    }
-    if code < CELLS {
-        return is_sensitive_place((code - REGISTERS) as usize);
-    }
-    if code < PUBLICS {
-        return is_sensitive_place(32 + ((code - CELLS) as usize));
+        return coding::kind_at(32 + ((code - CELLS) as usize));
     }
     if code < SENSITIVES {
-        return false;
+        return Kind::Public;
     }
-    code < TABLES
+    if code < TABLES {
+        return Kind::Sensitive;
+    }
+    Kind::Neither
 }
 
 // r0 to r3, also as a base, a cell above 255, or ^.
@@ -121,12 +99,12 @@ fn has_sensitive_base(code: u16) -> bool
         return false;
     }
     if code < SENSITIVES {
-        return is_sensitive_place(((code - PUBLICS) / 128) as usize);
+        return is_sensitive(coding::kind_at(((code - PUBLICS) / 128) as usize));
     }
     if code < TABLES {
-        return is_sensitive_place(((code - SENSITIVES) / 128) as usize);
+        return is_sensitive(coding::kind_at(((code - SENSITIVES) / 128) as usize));
     }
-    is_sensitive_place(((code - TABLES) / 256) as usize)
+    is_sensitive(coding::kind_at(((code - TABLES) / 256) as usize))
 }
 
 // A literal above 1.
@@ -176,10 +154,10 @@ fn reads_sensitive(m: u16, a: u16, b: u16) -> bool
     if is_marked(m) {
         return false;
     }
-    if is_sensitive(a) {
+    if is_sensitive(kind_of(a)) {
         return true;
     }
-    is_sensitive(b)
+    is_sensitive(kind_of(b))
 }
 
 // ---- the conditions of a line, each on the numbers of the fields that it asks about
@@ -200,9 +178,9 @@ fn holds11(m: u16, d: u16) -> bool
     ensures { λ r. ⌜ r ≡ holds11 (lineOf m 0 d 0 0 0) ⌝ }
 {
     if is_marked(m) {
-        return is_public(d);
+        return is_public(kind_of(d));
     }
-    is_sensitive(d)
+    is_sensitive(kind_of(d))
 }
 
 fn holds12(m: u16, d: u16, a: u16, b: u16) -> bool
@@ -224,10 +202,10 @@ fn holds13(m: u16, a: u16, b: u16) -> bool
     ensures { λ r. ⌜ r ≡ holds13 (lineOf m 0 0 a b 0) ⌝ }
 {
     if is_marked(m) {
-        if is_public(a) {
+        if is_public(kind_of(a)) {
             return true;
         }
-        return is_public(b);
+        return is_public(kind_of(b));
     }
     false
 }

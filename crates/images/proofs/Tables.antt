@@ -13,7 +13,8 @@ use Rattle.model.specs.Step.{alu}
 use Rattle.model.specs.Code.{code, entry, page}
 use Rattle.model.specs.declared.Opcode.{Opcode}
 use Rattle.model.specs.declared.Opcode.the-variants.{And, Orr, Xor}
-use Rattle.model.specs.Images.{every}
+use Rattle.model.specs.Images.{fixed, every}
+use Rattle.model.proofs.TestLaws.{below}
 use Rattle.model.proofs.BackLaws.{every-at}
 
 abbrev pub and-table : List ℕ
@@ -46,3 +47,8 @@ xor-page i g h = rw (le-ltb i 16 (omega arith), le-ltb i 32 g, lt-ltb i 48 h) (h
 pub rest-page : (i : ℕ) → 48 ≤ i → 0 ≡ page i
 unfolding page
 rest-page i g = rw (le-ltb i 16 (omega arith), le-ltb i 32 (omega arith), le-ltb i 48 g)
+
+-- below the table page nothing but 0 is fixed
+pub low-fixed : (i : ℕ) → i < 288 → 0 ≡ fixed i
+unfolding fixed
+low-fixed i h = below i 4 (λ l. rw (lt-ltb i 4 l)) (λ g. let q : i - 288 ≡ 0 = omega arith in rw (le-ltb i 4 g, q) (and-page 0 (omega arith)))

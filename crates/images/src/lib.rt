@@ -1,15 +1,16 @@
 // 'Code, tables, macros' of document 01, the tables and the images of bit states, and the way back: conditions 18 and 19, then a store of
 // 544 bytes, place by place.
 ghost use mathlib.Core.Path.{_≡_};
-ghost use mathlib.Core.Bool.{cond, _||_};
+ghost use mathlib.Core.Bool.{true, cond, _||_};
 ghost use mathlib.Core.List.{[], _∷_};
-ghost use lib.Dec.{eqb};
+ghost use lib.Dec.{eqb, ltb};
 ghost use lib.ListN.{length};
 ghost use Rattle.model.specs.Answers.{report, outcome};
 ghost use Rattle.model.specs.Code.{code, page};
-ghost use Rattle.model.specs.Images.{imageAt, backAt, image as imageOf, back as backOf};
+ghost use Rattle.model.specs.Images.{fixed, imageAt, backAt, image as imageOf, back as backOf};
 ghost use Rattle.model.specs.Images.{bitRight, imageRight, every, toImageOutcome, fromImageOutcome};
 use model::Answer;
+use model::Kind;
 use model::STATE_SIZE;
 
 // The tables of codes: entry 4 * code(a) + code(b) is the code of a op b, and the twelve other entries are 0.
@@ -35,26 +36,25 @@ fn page_at(i: usize) -> u8
     0
 }
 
+// What an image holds where neither a public nor a sensitive place is: 0 in r0 to r3, then the tables.
+fn fixed_at(i: usize) -> u8
+    ensures { λ r. ⌜ r ≡ fixed i ⌝ }
+{
+    if i < 288 {
+        return 0;
+    }
+    page_at(i - 288)
+}
+
 // What an image holds at place i, x being what the bit state holds there.
 fn image_at(i: usize, x: u8) -> u8
     ensures { λ r. ⌜ r ≡ imageAt i x ⌝ }
 {
-    if i < 4 {
-        return 0;
+    match coding::kind_at(i) {
+        Kind::Neither => fixed_at(i),
+        Kind::Public => x,
+        Kind::Sensitive => coding::code_of(x),
     }
-    if i < 16 {
-        return x;
-    }
-    if i < 32 {
-        return coding::code_of(x);
-    }
-    if i < 160 {
-        return x;
-    }
-    if i < 288 {
-        return coding::code_of(x);
-    }
-    page_at(i - 288)
 }
 
 fn bit_of(x: u8) -> u8
@@ -67,44 +67,22 @@ fn bit_of(x: u8) -> u8
 fn back_at(i: usize, x: u8) -> u8
     ensures { λ r. ⌜ r ≡ backAt i x ⌝ }
 {
-    if i < 4 {
-        return 0;
+    match coding::kind_at(i) {
+        Kind::Neither => 0,
+        Kind::Public => x,
+        Kind::Sensitive => bit_of(x),
     }
-    if i < 16 {
-        return x;
-    }
-    if i < 32 {
-        return bit_of(x);
-    }
-    if i < 160 {
-        return x;
-    }
-    if i < 288 {
-        return bit_of(x);
-    }
-    0
 }
 
 // Whether a bit state may hold x at place i.
 fn bit_right(i: usize, x: u8) -> bool
     ensures { λ r. ⌜ r ≡ bitRight i x ⌝ }
 {
-    if i < 4 {
-        return x == 0;
+    match coding::kind_at(i) {
+        Kind::Neither => x == 0,
+        Kind::Public => true,
+        Kind::Sensitive => x <= 1,
     }
-    if i < 16 {
-        return true;
-    }
-    if i < 32 {
-        return x <= 1;
-    }
-    if i < 160 {
-        return true;
-    }
-    if i < 288 {
-        return x <= 1;
-    }
-    x == 0
 }
 
 fn is_code(x: u8) -> bool
@@ -113,9 +91,9 @@ fn is_code(x: u8) -> bool
     if x == 1 { true } else { x == 2 }
 }
 
-// Whether x may stand at place i on the way back; r1 to r3 hold anything.
-fn image_right(i: usize, x: u8) -> bool
-    ensures { λ r. ⌜ r ≡ imageRight i x ⌝ }
+// Whether x may stand on the way back where neither a public nor a sensitive place is; r1 to r3 hold anything.
+fn is_fixed(i: usize, x: u8) -> bool
+    ensures { λ r. ⌜ r ≡ cond (ltb i 4) (cond (eqb i 0) (eqb x 0) true) (eqb x (fixed i)) ⌝ }
 {
     if i < 4 {
         if i == 0 {
@@ -123,19 +101,18 @@ fn image_right(i: usize, x: u8) -> bool
         }
         return true;
     }
-    if i < 16 {
-        return true;
+    x == fixed_at(i)
+}
+
+// Whether x may stand at place i on the way back.
+fn image_right(i: usize, x: u8) -> bool
+    ensures { λ r. ⌜ r ≡ imageRight i x ⌝ }
+{
+    match coding::kind_at(i) {
+        Kind::Neither => is_fixed(i, x),
+        Kind::Public => true,
+        Kind::Sensitive => is_code(x),
     }
-    if i < 32 {
-        return is_code(x);
-    }
-    if i < 160 {
-        return true;
-    }
-    if i < 288 {
-        return is_code(x);
-    }
-    x == page_at(i - 288)
 }
 
 fn bits_right(bits: &[u8]) -> bool

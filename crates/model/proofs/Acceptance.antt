@@ -18,7 +18,8 @@ use Rattle.model.specs.declared.Operand.{Operand}
 use Rattle.model.specs.declared.Operand.the-variants.{Empty, Literal, Register, Cell, PublicCell, SensitiveCell, TableCell}
 use Rattle.model.specs.declared.Target.{Target}
 use Rattle.model.specs.declared.Line.{Line}
-use Rattle.model.specs.Places.{Public, Sensitive, kind, kindOf, isPublic, isSensitive}
+use Rattle.model.specs.declared.Kind.the-variants.{Public, Sensitive}
+use Rattle.model.specs.Places.{kind, kindOf, isPublic, isSensitive}
 use Rattle.model.specs.Lines.{fills, operandRight, isLiteral, correct, AllCorrect}
 use Rattle.model.specs.Marks.{isReserved, hasSensitiveBase, isNoBit, hasMacro, holds10, holds11, holds12, holds13, holds14, holds15, holds16, markFault, firstBad, marksOf, Accepted}
 use Rattle.model.proofs.TestLaws.{below, is-true, and-both}

@@ -11,7 +11,9 @@ use borrow.Author.Tests.{le-ltb}
 use lib.Dec.{T, ltb, eqb, eqb→eq, eqb-refl, leb→le}
 use lib.ListN.{length, getD}
 use lib.Seq.{ext-getD}
-use Rattle.model.specs.Places.{State, Kind, Neither, Public, Sensitive, kind}
+use Rattle.model.specs.declared.Kind.{Kind}
+use Rattle.model.specs.declared.Kind.the-variants.{Neither, Public, Sensitive}
+use Rattle.model.specs.Places.{State, kind}
 use Rattle.model.specs.Code.{code, page}
 use Rattle.model.specs.Images.{Bit, BitState, fixed, imageAt, backAt, image, back, bitRight, imageRight, every, ButScratch}
 use Rattle.model.proofs.TestLaws.{holds, and-both, both-and}

@@ -7,7 +7,8 @@ use native.Mathlib.Omega.{arith}
 use borrow.Author.Tests.{le-ltb}
 use lib.ListN.{length, getD, set}
 use Rattle.model.specs.declared.Operand.{Operand}
-use Rattle.model.specs.Places.{State, Public, Sensitive, kind, place, address}
+use Rattle.model.specs.declared.Kind.the-variants.{Public, Sensitive}
+use Rattle.model.specs.Places.{State, kind, place, address}
 use Rattle.model.specs.Code.{code, page}
 use Rattle.model.specs.Images.{Bit, BitState, mapAt, imageAt, SamePublic}
 use Rattle.model.proofs.PlaceLaws.{mapAt-length, mapAt-getD, mapAt-set, same-sensitive, table-cell}

@@ -6,7 +6,9 @@ use native.Mathlib.Omega.{arith}
 use lib.ListN.{getD}
 use Rattle.model.specs.declared.Operand.{Operand}
 use Rattle.model.specs.declared.Operand.the-variants.{Empty, Literal, Register, Cell, PublicCell, SensitiveCell, TableCell}
-use Rattle.model.specs.Places.{State, Kind, Public, Sensitive, kind, value, place, address}
+use Rattle.model.specs.declared.Kind.{Kind}
+use Rattle.model.specs.declared.Kind.the-variants.{Public, Sensitive}
+use Rattle.model.specs.Places.{State, kind, value, place, address}
 use Rattle.model.specs.Images.{SamePublic}
 use Rattle.model.proofs.PlaceLaws.{public-register, sensitive-register, public-cell, sensitive-cell}
 

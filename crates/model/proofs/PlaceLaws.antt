@@ -10,7 +10,9 @@ use native.Mathlib.Omega.{arith}
 use borrow.Author.Tests.{lt-ltb, le-ltb}
 use lib.ListN.{length, getD, set, length-set}
 use lib.Seq.{getD-set-same, getD-set-other}
-use Rattle.model.specs.Places.{State, Kind, Neither, Public, Sensitive, kind}
+use Rattle.model.specs.declared.Kind.{Kind}
+use Rattle.model.specs.declared.Kind.the-variants.{Neither, Public, Sensitive}
+use Rattle.model.specs.Places.{State, kind}
 use Rattle.model.specs.Images.{Bit, BitState, mapAt, SamePublic}
 
 -- ---- kinds

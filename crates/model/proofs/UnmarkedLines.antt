@@ -12,7 +12,8 @@ use Rattle.model.specs.declared.Opcode.{Opcode}
 use Rattle.model.specs.declared.Operand.{Operand}
 use Rattle.model.specs.declared.Operand.the-variants.{Empty, Literal, Register, Cell, PublicCell, SensitiveCell, TableCell}
 use Rattle.model.specs.declared.Target.{Target}
-use Rattle.model.specs.Places.{State, Public, kind, place, value}
+use Rattle.model.specs.declared.Kind.the-variants.{Public}
+use Rattle.model.specs.Places.{State, kind, place, value}
 use Rattle.model.specs.Step.{weight, alu, taken, targetLine, result, next, after, row}
 use Rattle.model.specs.Images.{BitState, SamePublic}
 use Rattle.model.proofs.PlaceLaws.{bits-set, same-both}

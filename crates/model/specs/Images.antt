@@ -8,7 +8,9 @@ use lib.Dec.{ltb, leb, eqb}
 use lib.ListN.{getD, length}
 use Rattle.model.specs.Limits.{stateSize}
 use Rattle.model.specs.Answers.{counted, refused, Outcome, outcome}
-use Rattle.model.specs.Places.{State, Kind, Neither, Public, Sensitive, kind}
+use Rattle.model.specs.declared.Kind.{Kind}
+use Rattle.model.specs.declared.Kind.the-variants.{Neither, Public, Sensitive}
+use Rattle.model.specs.Places.{State, kind}
 use Rattle.model.specs.Code.{code, page}
 
 -- by the kind of a place

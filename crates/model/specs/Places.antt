@@ -6,6 +6,8 @@ use mathlib.Core.List.{List}
 use Prim.Native.Nat.{ℕ, _+_, _%_}
 use lib.Dec.{ltb}
 use lib.ListN.{getD}
+use Rattle.model.specs.declared.Kind.{Kind}
+use Rattle.model.specs.declared.Kind.the-variants.{Neither, Public, Sensitive}
 use Rattle.model.specs.declared.Operand.{Operand}
 use Rattle.model.specs.declared.Operand.the-variants.{Empty, Literal, Register, Cell, PublicCell, SensitiveCell, TableCell}
 use Rattle.model.specs.Limits.{stateSize}
@@ -14,9 +16,6 @@ abbrev pub State : Type 0
 State = List ℕ
 
 -- r4 to r15 and cells 0 to 127 are public, r16 to r31 and cells 128 to 255 sensitive; r0 to r3 and the table page are neither
-pub data Kind : Type 0 where
-  Neither Public Sensitive : Kind
-
 unfoldable pub kind : ℕ → Kind
 kind i =
     cond (ltb i 4) Neither

@@ -48,6 +48,13 @@ pub enum Operand {
     TableCell { base: u8, offset: u8 },
 }
 
+// What a place may hold: r4 to r15 and cells 0 to 127 are public, r16 to r31 and cells 128 to 255 sensitive, all others neither.
+pub enum Kind {
+    Neither,
+    Public,
+    Sensitive,
+}
+
 pub enum Target {
     Empty,
     Line(u16),

@@ -13,7 +13,9 @@ use Rattle.model.specs.declared.Answer.{Answer}
 use Rattle.model.specs.declared.Line.{Line}
 use Rattle.model.specs.Limits.{lineWidth, stateSize, rowWidth}
 use Rattle.model.specs.Answers.{Report, done, report, counted, refused, halted, spent, Outcome, outcome, atFront}
-use Rattle.model.specs.Places.{Kind, Neither, Public, Sensitive, State, kind}
+use Rattle.model.specs.declared.Kind.{Kind}
+use Rattle.model.specs.declared.Kind.the-variants.{Neither, Public, Sensitive}
+use Rattle.model.specs.Places.{State, kind}
 use Rattle.model.specs.Step.{Row, row, next, after}
 use Rattle.model.specs.Stored.{lineCount, lines, programCheck}
 use Rattle.model.specs.Run.{Ran, run, answer, runLeaves, runOutcome}

@@ -6,7 +6,6 @@ use mathlib.Core.Option.{Option, none, some}
 use Prim.Native.Nat.{ℕ, _+_, _-_, _*_}
 use lib.Dec.{ltb, leb, eqb}
 use lib.ListN.{length, getD, drop}
-use Rattle.model.specs.Limits.{maxLines}
 use Rattle.model.specs.Stored.{literals, registers, cells, publics, sensitives, tables}
 use Rattle.model.specs.Text.{upTo, past}
 use Rattle.text.specs.declared.Field.{Field}

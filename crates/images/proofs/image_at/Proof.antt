@@ -1,54 +1,49 @@
--- `images::image_at` meets its contract. Its tests are the definition's, in the same order. Assumes nothing.
-use Rattle.coding.proofs.Tests.{tests}
-use Rattle.model.specs.Places.{kind}
-use Rattle.model.specs.Images.{imageAt, fixed}
+-- `images::image_at` meets its contract. By the kind of the place. Assumes nothing.
+use Rattle.model.specs.Images.{imageAt}
 use borrow.Author.Needs.{needs}
 use Rattle.images.proofs.image_at.Statement.{statement}
 use Rattle.images.proofs.image_at.Tie as tie
 
-returns : tie.Need-returns
-unfolding imageAt kind fixed
-returns c = search tests
+kind-at-requires : tie.Need-kind-at-requires
+kind-at-requires c κs = search needs
 
-returns-2 : tie.Need-returns-2
-unfolding imageAt kind fixed
-returns-2 c = search tests
+enum-told : tie.Need-enum-told
+enum-told c = search needs
+
+fixed-at-requires : tie.Need-fixed-at-requires
+fixed-at-requires c κs = search needs
+
+enum-told-2 : tie.Need-enum-told-2
+enum-told-2 c = search needs
+
+enum-told-3 : tie.Need-enum-told-3
+enum-told-3 c = search needs
 
 code-of-requires : tie.Need-code-of-requires
 code-of-requires c κs = search needs
 
+returns : tie.Need-returns
+unfolding imageAt
+returns c = rw (← c .before .before .before .kind-at .ensures, c .before .enum-told .given .1) (c .fixed-at .ensures)
+
+returns-2 : tie.Need-returns-2
+unfolding imageAt
+returns-2 c = rw (← c .before .before .kind-at .ensures, c .enum-told2 .given .1)
+
 returns-3 : tie.Need-returns-3
-unfolding imageAt kind fixed
-returns-3 c = search tests
-
-returns-4 : tie.Need-returns-4
-unfolding imageAt kind fixed
-returns-4 c = search tests
-
-code-of-requires-2 : tie.Need-code-of-requires-2
-code-of-requires-2 c κs = search needs
-
-returns-5 : tie.Need-returns-5
-unfolding imageAt kind fixed
-returns-5 c = search tests
-
-page-at-requires : tie.Need-page-at-requires
-page-at-requires c κs = search needs
-
-returns-6 : tie.Need-returns-6
-unfolding imageAt kind fixed
-returns-6 c = search tests
+unfolding imageAt
+returns-3 c = rw (← c .before .before .before .kind-at .ensures, c .before .enum-told3 .given .1) (c .code-of .ensures)
 
 pub image-at-spec : {M : Type 1} → statement M
 image-at-spec =
     tie.close
     (tie.spec
+    kind-at-requires
+    enum-told
+    fixed-at-requires
+    enum-told-2
+    enum-told-3
+    code-of-requires
     returns
     returns-2
-    code-of-requires
-    returns-3
-    returns-4
-    code-of-requires-2
-    returns-5
-    page-at-requires
-    returns-6)
+    returns-3)

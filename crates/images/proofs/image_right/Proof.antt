@@ -1,59 +1,49 @@
--- `images::image_right` meets its contract. Its tests are the definition's, in the same order. Assumes nothing.
-use Rattle.coding.proofs.Tests.{tests}
+-- `images::image_right` meets its contract. By the kind of the place. Assumes nothing.
 use Rattle.model.specs.Images.{imageRight}
-use Rattle.model.specs.Places.{kind}
 use borrow.Author.Needs.{needs}
 use Rattle.images.proofs.image_right.Statement.{statement}
 use Rattle.images.proofs.image_right.Tie as tie
 
-returns : tie.Need-returns
-unfolding imageRight kind
-returns c = search tests
+kind-at-requires : tie.Need-kind-at-requires
+kind-at-requires c κs = search needs
 
-returns-2 : tie.Need-returns-2
-unfolding imageRight kind
-returns-2 c = search tests
+enum-told : tie.Need-enum-told
+enum-told c = search needs
 
-returns-3 : tie.Need-returns-3
-unfolding imageRight kind
-returns-3 c = search tests
+is-fixed-requires : tie.Need-is-fixed-requires
+is-fixed-requires c κs = search needs
+
+enum-told-2 : tie.Need-enum-told-2
+enum-told-2 c = search needs
+
+enum-told-3 : tie.Need-enum-told-3
+enum-told-3 c = search needs
 
 is-code-requires : tie.Need-is-code-requires
 is-code-requires c κs = search needs
 
-returns-4 : tie.Need-returns-4
-unfolding imageRight kind
-returns-4 c = search tests
+returns : tie.Need-returns
+unfolding imageRight
+returns c = rw (← c .before .before .before .kind-at .ensures, c .before .enum-told .given .1) (c .is-fixed .ensures)
 
-returns-5 : tie.Need-returns-5
-unfolding imageRight kind
-returns-5 c = search tests
+returns-2 : tie.Need-returns-2
+unfolding imageRight
+returns-2 c = rw (← c .before .before .kind-at .ensures, c .enum-told2 .given .1)
 
-is-code-requires-2 : tie.Need-is-code-requires-2
-is-code-requires-2 c κs = search needs
-
-returns-6 : tie.Need-returns-6
-unfolding imageRight kind
-returns-6 c = search tests
-
-page-at-requires : tie.Need-page-at-requires
-page-at-requires c κs = search needs
-
-returns-7 : tie.Need-returns-7
-unfolding imageRight kind
-returns-7 c = rw (← c .page-at .ensures) (search tests)
+returns-3 : tie.Need-returns-3
+unfolding imageRight
+returns-3 c = rw (← c .before .before .before .kind-at .ensures, c .before .enum-told3 .given .1) (c .is-code .ensures)
 
 pub image-right-spec : {M : Type 1} → statement M
 image-right-spec =
     tie.close
     (tie.spec
+    kind-at-requires
+    enum-told
+    is-fixed-requires
+    enum-told-2
+    enum-told-3
+    is-code-requires
     returns
     returns-2
-    returns-3
-    is-code-requires
-    returns-4
-    returns-5
-    is-code-requires-2
-    returns-6
-    page-at-requires
-    returns-7)
+    returns-3)

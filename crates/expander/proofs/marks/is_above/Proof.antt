@@ -1,6 +1,6 @@
 -- `expander::marks::is_above` meets its contract, by the law on a target's number. Assumes nothing.
 use borrow.Author.Needs.{needs}
-use Rattle.expander.proofs.KindTests.{above}
+use Rattle.expander.proofs.NumberTests.{above}
 use Rattle.expander.proofs.marks.is_above.Statement.{statement}
 use Rattle.expander.proofs.marks.is_above.Tie as tie
 

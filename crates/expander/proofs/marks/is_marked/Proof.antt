@@ -1,5 +1,5 @@
 -- `expander::marks::is_marked` meets its contract. The definition makes the same test. Assumes nothing.
-use Rattle.expander.proofs.KindTests.{marked}
+use Rattle.expander.proofs.NumberTests.{marked}
 use Rattle.expander.proofs.marks.is_marked.Statement.{statement}
 use Rattle.expander.proofs.marks.is_marked.Tie as tie
 

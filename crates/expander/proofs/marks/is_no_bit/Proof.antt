@@ -1,7 +1,7 @@
 -- `expander::marks::is_no_bit` meets its contract. Form by form, by the tests that decode the number. Assumes nothing.
 use Rattle.model.specs.Marks.{isNoBit}
 use Rattle.model.proofs.Forms.{empty, literal}
-use Rattle.expander.proofs.KindTests.{high-bit}
+use Rattle.expander.proofs.NumberTests.{high-bit}
 use Rattle.expander.proofs.marks.is_no_bit.Statement.{statement}
 use Rattle.expander.proofs.marks.is_no_bit.Tie as tie
 

@@ -1,7 +1,7 @@
 -- `expander::marks::is_reserved` meets its contract. Form by form, by the tests that decode the number. Assumes nothing.
 use Rattle.model.specs.Marks.{isReserved}
 use Rattle.model.proofs.Forms.{register, cell, public-cell, sensitive-cell, table-cell}
-use Rattle.expander.proofs.KindTests.{low-free}
+use Rattle.expander.proofs.NumberTests.{low-free}
 use Rattle.expander.proofs.marks.is_reserved.Statement.{statement}
 use Rattle.expander.proofs.marks.is_reserved.Tie as tie
 

@@ -9,17 +9,23 @@ is-marked-requires c κs = search needs
 returns : tie.Need-returns
 returns c = rw (← c .before .is-marked .ensures, c .if1 .taken)
 
+kind-of-requires : tie.Need-kind-of-requires
+kind-of-requires c κs = search needs
+
 is-sensitive-requires : tie.Need-is-sensitive-requires
 is-sensitive-requires c κs = search needs
 
 returns-2 : tie.Need-returns-2
-returns-2 c = rw (← c .before .before .before .is-marked .ensures, c .before .before .if1 .left, ← c .before .is-sensitive .ensures, c .if2 .taken)
+returns-2 c = rw (← c .before .before .before .before .is-marked .ensures, c .before .before .before .if1 .left, ← c .before .before .kind-of .ensures, ← c .before .is-sensitive .ensures, c .if2 .taken)
+
+kind-of-requires-2 : tie.Need-kind-of-requires-2
+kind-of-requires-2 c κs = search needs
 
 is-sensitive-requires-2 : tie.Need-is-sensitive-requires-2
 is-sensitive-requires-2 c κs = search needs
 
 returns-3 : tie.Need-returns-3
-returns-3 c = rw (← c .before .before .before .before .is-marked .ensures, c .before .before .before .if1 .left, ← c .before .before .is-sensitive .ensures, c .before .if2 .left) (c .is-sensitive2 .ensures)
+returns-3 c = rw (← c .before .before .before .before .before .before .is-marked .ensures, c .before .before .before .before .before .if1 .left, ← c .before .before .before .before .kind-of .ensures, ← c .before .before .before .is-sensitive .ensures, c .before .before .if2 .left, ← c .before .kind-of2 .ensures) (c .is-sensitive2 .ensures)
 
 pub reads-sensitive-spec : {M : Type 1} → statement M
 reads-sensitive-spec =
@@ -27,7 +33,9 @@ reads-sensitive-spec =
     (tie.spec
     is-marked-requires
     returns
+    kind-of-requires
     is-sensitive-requires
     returns-2
+    kind-of-requires-2
     is-sensitive-requires-2
     returns-3)

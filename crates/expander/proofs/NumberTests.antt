@@ -1,0 +1,54 @@
+-- What the conditions ask of the numbers of a mark, a target and an operand, by the tests that the code makes.
+-- Assumes nothing.
+use mathlib.Core.Path.{_≡_, refl}
+use mathlib.Core.Bool.{Bool, true, false, cond, not}
+use Prim.Native.Nat.{ℕ, _+_, _-_, _≤_, _<_}
+use native.Mathlib.Omega.{arith}
+use borrow.Author.Tests.{eq-eqb, ne-eqb, lt-ltb, le-ltb}
+use lib.Dec.{eqb, ltb}
+use Rattle.model.proofs.Forms.{by-form, low-form}
+use Rattle.model.proofs.TestLaws.{below}
+use Rattle.model.specs.declared.Mark.the-variants.{Unmarked, Marked}
+use Rattle.model.specs.Stored.{registers, publics, markOf, operandOf, targetOf}
+use Rattle.model.specs.declared.Kind.the-variants.{Neither}
+use Rattle.model.specs.Places.{kindOf}
+use Rattle.model.specs.Marks.{isReserved, hasSensitiveBase, isNoBit, isAbove, isMarked}
+
+marked-by : (x : Bool) → not x ≡ isMarked (cond x Unmarked Marked)
+marked-by true = refl
+marked-by false = refl
+
+pub marked : (m : ℕ) → not (eqb m 0) ≡ isMarked (markOf m)
+marked m = marked-by (eqb m 0)
+
+module _ (n : ℕ) where
+  -- a target's line is 1 less than its number
+  pub above : (k : ℕ) → ltb (k + 1) n ≡ isAbove k (targetOf n)
+  unfolding isAbove targetOf
+  above k =
+      below n 1 (λ l. rw (eq-eqb n 0 (omega arith), le-ltb (k + 1) n (omega arith))) (λ g.
+      below (k + 1) n (λ l. rw (ne-eqb n 0 (λ e. omega arith), lt-ltb (k + 1) n l, lt-ltb k (n - 1) (omega arith)))
+      (λ l. rw (ne-eqb n 0 (λ e. omega arith), le-ltb (k + 1) n l, le-ltb k (n - 1) (omega arith))))
+
+  -- an empty field and a literal name no place
+  pub low-kind : n < registers → kindOf (operandOf n) ≡ Neither
+  unfolding kindOf
+  low-kind h = low-form n (λ o. kindOf o ≡ Neither) h refl (λ k. refl)
+
+  pub low-free : n < registers → isReserved (operandOf n) ≡ false
+  unfolding isReserved
+  low-free h = low-form n (λ o. isReserved o ≡ false) h refl (λ k. refl)
+
+  -- an operand below the indirect ones has no base
+  pub no-base : n < publics → hasSensitiveBase (operandOf n) ≡ false
+  unfolding hasSensitiveBase
+  no-base h =
+      by-form n (λ o. hasSensitiveBase o ≡ false) (λ l. refl) (λ g l. refl) (λ g l. refl) (λ g l. refl)
+      (λ g l. absurd (omega arith)) (λ g l. absurd (omega arith)) (λ g. absurd (omega arith))
+
+  -- no literal
+  pub high-bit : registers ≤ n → isNoBit (operandOf n) ≡ false
+  unfolding isNoBit
+  high-bit h =
+      by-form n (λ o. isNoBit o ≡ false) (λ l. absurd (omega arith)) (λ g l. absurd (omega arith)) (λ g l. refl) (λ g l. refl)
+      (λ g l. refl) (λ g l. refl) (λ g. refl)
