@@ -4,14 +4,13 @@ use mathlib.Core.Path.{_≡_, refl, sym, ap, ap₂, _∙_, subst, subst₂}
 use mathlib.Core.Bool.{Bool, true, false, cond}
 use mathlib.Core.List.{List, [], _∷_, flatMap}
 use Prim.Native.Nat.{ℕ, _*_, _≤_}
-use native.Mathlib.Omega.{arith}
 use borrow.Author.Tests.{le-ltb, eq-eqb}
 use lib.Dec.{ltb}
 use lib.ListN.{length, take, drop}
 use lib.Seq.{take-at}
 use Rattle.model.specs.declared.Line.{Line}
 use Rattle.model.specs.Limits.{stateSize, lineWidth, rowWidth}
-use Rattle.model.specs.Answers.{Report, done, refused, counted, Outcome, outcome, atFront}
+use Rattle.model.specs.Answers.{Report, done, counted, Outcome, outcome, atFront}
 use Rattle.model.specs.Places.{State}
 use Rattle.model.specs.Stored.{codes, lineCount, lines, programCheck}
 use Rattle.model.specs.Run.{Ran, run, answer, runLeaves, runOutcome}
@@ -22,23 +21,14 @@ use Rattle.model.specs.Claims.{span}
 use Rattle.model.proofs.TestLaws.{is-true}
 use Rattle.model.proofs.PlaceLaws.{mapAt-length}
 use Rattle.model.proofs.StoredLaws.{codes-length, CheckAnswer, accepts, refuses, check-answer}
-use Rattle.model.proofs.ExpansionLaws.{MarkAnswer, counts, turnsDown, mark-answer, mark-accepted, expansion-check, expansion-lines}
+use Rattle.model.proofs.ExpansionLaws.{expansion-check, expansion-lines}
 use Rattle.model.proofs.BackLaws.{back-image, image-passes}
-use Rattle.model.proofs.OutcomeLaws.{expansion-written, image-made, first-store}
+use Rattle.model.proofs.OutcomeLaws.{never-done, expansion-written, image-made, first-store}
+use Rattle.model.proofs.AnswerLaws.{accepted-source}
 use Rattle.model.proofs.DemandThree.{equal-traces, correspondence}
 use Rattle.balance.specs.EntryClaims.{Expanded, listing, SameCalls, EqualTraceStores, FollowingCalls, SourceFollowed, Twin, Followable}
 
 -- ---- a program that `expand` did not refuse is checked and accepted
-
-never-done : {k l : ℕ} {vs : List ℕ} → refused k l ≡ done vs → ⊥
-never-done e = let z : _≡_ {A = ℕ} 0 1 = cc in omega arith
-
-accepted-source : (p vs : List ℕ) → markCheck p ≡ done vs → Accepted (lines p)
-accepted-source p vs e = go (mark-answer p)
-  where
-    go : MarkAnswer (markCheck p) → Accepted (lines p)
-    go (counts n q) = mark-accepted p n q
-    go (turnsDown k i q) = absurd (never-done (sym q ∙ e))
 
 checked-source : (p vs : List ℕ) → markCheck p ≡ done vs → programCheck p ≡ counted (lineCount p)
 unfolding markCheck

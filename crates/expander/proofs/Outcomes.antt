@@ -1,61 +1,36 @@
 -- What the mark check and the expander answer, and what the lent store holds afterwards.
 -- Assumes nothing.
-use mathlib.Core.Path.{_≡_, sym, ap, _∙_}
+use mathlib.Core.Path.{_≡_, sym, _∙_}
 use mathlib.Core.List.{List, [], _∷_, flatMap}
-use mathlib.Core.Logic.{inl, inr}
 use Prim.Native.Nat.{ℕ, _+_, _*_, _≤_, _<_}
 use native.Mathlib.Omega.{arith}
 use borrow.Author.Tests.{lt-ltb, le-ltb}
 use lib.ListN.{length, getD}
-use denote.Enum.Declared.{tagOf}
-use types.Run.{OneOf}
-use Rattle.model.proofs.Answer.{the-type}
 use Rattle.model.specs.declared.Answer.{Answer}
-use Rattle.model.specs.declared.Answer.the-variants.{Count, Halted, Spent, Refused}
-use Rattle.model.specs.Answers.{done, report, outcome, counted, refused}
+use Rattle.model.specs.declared.Answer.the-variants.{Count}
+use Rattle.model.specs.Answers.{report, outcome, counted, refused}
 use Rattle.model.specs.Stored.{codes, lineCount, lines, programCheck}
 use Rattle.model.specs.Expansion.{expandOutcome, start, joined, expand, written}
 use Rattle.model.specs.Limits.{maxAccepted, longest}
 use Rattle.model.specs.Marks.{marksOf, markCheck, Accepted}
 use Rattle.model.proofs.StoredLaws.{length-lines, codes-length}
 use Rattle.model.proofs.Acceptance.{accepted-right}
-use Rattle.model.proofs.ExpansionLaws.{expand-length, expansion-most, expansion-correct, joined-same, mark-accepted, MarkAnswer, counts, turnsDown, mark-answer}
-use Rattle.coding.proofs.Programs.{no-ending}
+use Rattle.model.proofs.ExpansionLaws.{expand-length, expansion-most, expansion-correct, joined-same, mark-accepted}
+use Rattle.model.proofs.AnswerLaws.{program-answers, mark-answers, NoCount, count-told, no-count-refuses, handed-on}
 use Rattle.expander.specs.Starts.{lookedUp, Starts}
 use Rattle.expander.specs.Writes.{put}
 use Rattle.expander.proofs.StoreWrites.{stored-correct}
 use Rattle.expander.proofs.StartTable.{starts-found, starts-last}
 
--- ---- answers that are no count: a check only counts or refuses
-
--- an answer by the number of its variant: not the first
-abbrev pub NoCount : Answer → Type 0
-NoCount a = OneOf (1 ∷ 2 ∷ 3 ∷ []) (tagOf the-type a)
-
-counts-not : (n : ℕ) → NoCount (Count n) → ⊥
-counts-not n (inl e) = omega arith
-counts-not n (inr (inl e)) = omega arith
-counts-not n (inr (inr e)) = omega arith
-
-no-ending-marked : (p : List ℕ) (k counter steps : ℕ) → done (k ∷ counter ∷ steps ∷ []) ≡ markCheck p → ⊥
-no-ending-marked p k counter steps e = go (mark-answer p)
-  where
-    go : MarkAnswer (markCheck p) → ⊥
-    go (counts n q) = let z : _≡_ {A = ℕ} 0 1 = cc in omega arith
-    go (turnsDown n i q) = let z : _≡_ {A = ℕ} 0 1 = cc in omega arith
-
 -- ---- the mark check
 
 pub check-stops : (p : List ℕ) (a : Answer) → NoCount a → report a ≡ programCheck p → report a ≡ markCheck p
 unfolding markCheck
-check-stops p (Count n) k e = absurd (counts-not n k)
-check-stops p (Halted counter steps) k e = absurd (no-ending p 0 counter steps e)
-check-stops p (Spent counter steps) k e = absurd (no-ending p 1 counter steps e)
-check-stops p (Refused number line) k e = rw (← e)
+check-stops p a k e = e ∙ rw (no-count-refuses a k (program-answers p) e .is)
 
 pub check-goes-on : (p : List ℕ) (a r : Answer) (n : ℕ) → report a ≡ programCheck p → a ≡ Count n → report r ≡ marksOf (lines p) → report r ≡ markCheck p
 unfolding markCheck
-check-goes-on p a r n e q w = rw (← e, q) w
+check-goes-on p a r n e q w = rw (count-told q e) w
 
 -- ---- the expansion of an accepted program
 
@@ -100,16 +75,13 @@ module _ (p starts out : List ℕ) (A : Accepted (lines p)) (S : Starts starts (
 -- ---- the expansion of any stored program
 
 pub expand-stops : (p out : List ℕ) (a : Answer) → NoCount a → report a ≡ markCheck p → outcome (report a) (out ∷ []) ≡ expandOutcome p out
-unfolding expandOutcome written
-expand-stops p out (Count n) k e = absurd (counts-not n k)
-expand-stops p out (Halted counter steps) k e = absurd (no-ending-marked p 0 counter steps e)
-expand-stops p out (Spent counter steps) k e = absurd (no-ending-marked p 1 counter steps e)
-expand-stops p out (Refused number line) k e = rw (← e)
+unfolding expandOutcome
+expand-stops p out a k e = handed-on a k (mark-answers p) e (out ∷ []) _
 
 pub expand-goes-on : (p out o : List ℕ) (a r : Answer) (n : ℕ) → report a ≡ markCheck p → a ≡ Count n → outcome (report r) (o ∷ []) ≡ written (expand (lines p)) out
     → outcome (report r) (o ∷ []) ≡ expandOutcome p out
 unfolding expandOutcome written
-expand-goes-on p out o a r n e q w = rw (← e, q) w
+expand-goes-on p out o a r n e q w = rw (count-told q e) w
 
 pub accepted-by : (p : List ℕ) (a : Answer) (n : ℕ) → report a ≡ markCheck p → a ≡ Count n → Accepted (lines p)
-accepted-by p a n e q = mark-accepted p n (sym e ∙ ap report q)
+accepted-by p a n e q = mark-accepted p n (count-told q e)

@@ -6,29 +6,31 @@ use Prim.Native.Nat.{ℕ, _*_, _<_, _≤_}
 use lib.ListN.{length}
 use borrow.Author.Tests.{eq-eqb, ne-eqb, lt-ltb, le-ltb}
 use Rattle.model.specs.Limits.{stateSize, rowWidth}
-use Rattle.model.specs.Answers.{counted, refused, outcome}
+use Rattle.model.specs.declared.Answer.{Answer}
+use Rattle.model.specs.Answers.{report, counted, refused, outcome}
 use Rattle.model.specs.Stored.{programCheck}
 use Rattle.model.specs.Run.{runOutcome}
-use Rattle.coding.proofs.Programs.{count-bounds}
+use Rattle.model.proofs.StoredLaws.{program-checked}
+use Rattle.model.proofs.AnswerLaws.{program-answers, NoCount, handed-on}
 use Rattle.machine.specs.Loop.{machine, runFrom}
 use Rattle.machine.proofs.Traces.{run-leaves}
 
 module _ (p : List ℕ) (start budget : ℕ) (s t : List ℕ) where
-  pub no-program : (k l : ℕ) → refused k l ≡ programCheck p → outcome (refused k l) (s ∷ t ∷ []) ≡ runOutcome p start budget s t
+  pub no-program : (a : Answer) → NoCount a → report a ≡ programCheck p → outcome (report a) (s ∷ t ∷ []) ≡ runOutcome p start budget s t
   unfolding runOutcome
-  no-program k l e = rw (← e)
+  no-program a h e = handed-on a h (program-answers p) e (s ∷ t ∷ []) _
 
-  module _ (n : ℕ) (e : counted n ≡ programCheck p) where
+  module _ (n : ℕ) (e : programCheck p ≡ counted n) where
     pub no-state : (length s ≡ stateSize → ⊥) → outcome (refused 18 0) (s ∷ t ∷ []) ≡ runOutcome p start budget s t
     unfolding runOutcome
-    no-state h = rw (← e, ne-eqb (length s) stateSize h)
+    no-state h = rw (e, ne-eqb (length s) stateSize h)
 
     pub no-room : length s ≡ stateSize → length t < rowWidth * budget → outcome (refused 20 0) (s ∷ t ∷ []) ≡ runOutcome p start budget s t
     unfolding runOutcome
-    no-room h k = rw (← e, eq-eqb (length s) stateSize h, lt-ltb _ _ k)
+    no-room h k = rw (e, eq-eqb (length s) stateSize h, lt-ltb _ _ k)
 
     pub runs : length s ≡ stateSize → rowWidth * budget ≤ length t → runFrom p n budget (machine (record { counter = start; steps = 0 }) s t) ≡ runOutcome p start budget s t
     unfolding runOutcome
     runs h k =
-        rw (← e, eq-eqb (length s) stateSize h, le-ltb _ _ k)
-        (ap (λ (j : ℕ). runFrom p j budget (machine (record { counter = start; steps = 0 }) s t)) (count-bounds p n e .0) ∙ run-leaves p start budget s t k)
+        rw (e, eq-eqb (length s) stateSize h, le-ltb _ _ k)
+        (ap (λ (j : ℕ). runFrom p j budget (machine (record { counter = start; steps = 0 }) s t)) (program-checked p n e .count) ∙ run-leaves p start budget s t k)

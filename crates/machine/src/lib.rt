@@ -332,25 +332,20 @@ pub fn run(program: &[u16], start: u16, budget: u16, state: &mut [u8], trace: &m
     ensures { λ r. ⌜ outcome (report r) (now (state .exit) ∷ now (trace .exit) ∷ []) ≡ runOutcome (now (program .entry)) start budget (now (state .entry)) (now (trace .entry)) ⌝ }
 {
     let checked = coding::check_program(program);
-    match checked {
-        Answer::Refused { number, line } => Answer::Refused { number, line },
-        // The check gives no ending.
-        Answer::Halted { counter, steps } => Answer::Halted { counter, steps },
-        Answer::Spent { counter, steps } => Answer::Spent { counter, steps },
-        Answer::Count(count) => {
-            if state.len() != STATE_SIZE {
-                return Answer::Refused {
-                    number: 18,
-                    line: 0,
-                };
-            }
-            if trace.len() < ROW_WIDTH * (budget as usize) {
-                return Answer::Refused {
-                    number: 20,
-                    line: 0,
-                };
-            }
-            run_lines(program, count as u16, start, budget, state, trace)
-        }
+    let Answer::Count(count) = checked else {
+        return checked;
+    };
+    if state.len() != STATE_SIZE {
+        return Answer::Refused {
+            number: 18,
+            line: 0,
+        };
     }
+    if trace.len() < ROW_WIDTH * (budget as usize) {
+        return Answer::Refused {
+            number: 20,
+            line: 0,
+        };
+    }
+    run_lines(program, count as u16, start, budget, state, trace)
 }

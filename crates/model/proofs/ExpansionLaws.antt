@@ -1,12 +1,12 @@
 -- What the expansion of an accepted program is: correct lines, at most 13 for each source line, whose targets are in it, and a stored
 -- program again. Piece by piece, then by induction over the program. Assumes nothing.
 use mathlib.Core.Path.{_≡_, refl, sym, ap, ap₂, _∙_}
-use mathlib.Core.Bool.{Bool, true, false, not, _&&_, cond}
+use mathlib.Core.Bool.{Bool, true, false, not, _&&_}
 use mathlib.Core.List.{List, [], _∷_, _++_, flatMap}
-use Prim.Native.Nat.{ℕ, zero, suc, _+_, _*_, _≤_}
+use Prim.Native.Nat.{ℕ, zero, suc, _*_, _≤_}
 use native.Mathlib.Omega.{arith}
 use borrow.Author.Tests.{le-ltb}
-use lib.Dec.{T, ltb, leb, le→leb, nltb→le, eqb}
+use lib.Dec.{T, ltb, leb, le→leb, nltb→le}
 use lib.ListN.{length}
 use Rattle.model.specs.declared.Mark.{Mark}
 use Rattle.model.specs.declared.Mark.the-variants.{Unmarked, Marked}
@@ -18,12 +18,12 @@ use Rattle.model.specs.declared.Target.{Target}
 use Rattle.model.specs.declared.Target.the-variants.{Empty as NoTarget, Line as ToLine}
 use Rattle.model.specs.declared.Line.{Line}
 use Rattle.model.specs.Limits.{maxLines, maxAccepted, longest}
-use Rattle.model.specs.Answers.{Report, counted, done, andThen, refused}
+use Rattle.model.specs.Answers.{Report, counted}
 use Rattle.model.specs.Lines.{fills, operandRight, targetRight, isLiteral, correct, AllCorrect}
 use Rattle.model.specs.Stored.{codes, lineCount, lines, programCheck}
 use Rattle.model.specs.Code.{code, andTable, orrTable, xorTable}
 use Rattle.model.specs.Expansion.{coded, move, load, scale, combine, fetch, flip, writeBack, lookup, negate, copy, macro, newTarget, retarget, partOf, part, size, start, joined, expand}
-use Rattle.model.specs.Marks.{isAbove, holds16, markFault, marksOf, markCheck, Accepted, firstBad}
+use Rattle.model.specs.Marks.{isAbove, holds16, markFault, marksOf, markCheck, Accepted}
 use Rattle.model.proofs.TestLaws.{and-both, both-and}
 use Rattle.model.proofs.Parts.{joined-length}
 use Rattle.model.proofs.Acceptance.{clear, AllRight, marks-right, accepted-right}
@@ -347,26 +347,3 @@ mark-checked p n e = go (check-answer p) refl
 
 pub mark-accepted : (p : List ℕ) (n : ℕ) → markCheck p ≡ counted n → Accepted (lines p)
 mark-accepted p n e = mark-checked p n e .0
-
--- the mark check counts or refuses
-pub data MarkAnswer (r : Report) : Type 0 where
-  counts : (n : ℕ) → r ≡ counted n → MarkAnswer r
-  turnsDown : (k i : ℕ) → r ≡ refused k i → MarkAnswer r
-
-answer-either : (b : Bool) (x y : Report) → MarkAnswer x → MarkAnswer y → MarkAnswer (cond b x y)
-answer-either true x y h g = h
-answer-either false x y h g = g
-
-first-answer : (n i : ℕ) (p : List Line) → MarkAnswer (firstBad n i p)
-unfolding firstBad
-first-answer n i [] = counts n refl
-first-answer n i (l ∷ p) =
-    answer-either (eqb (markFault n l) 0) (firstBad n (i + 1) p) (refused (markFault n l) i) (first-answer n (i + 1) p) (turnsDown (markFault n l) i refl)
-
-pub mark-answer : (p : List ℕ) → MarkAnswer (markCheck p)
-unfolding markCheck marksOf
-mark-answer p = go (programCheck p)
-  where
-    go : (r : Report) → MarkAnswer (andThen r (marksOf (lines p)))
-    go (done v) = answer-either (ltb maxAccepted (length (lines p))) (refused 9 0) (firstBad (length (lines p)) 0 (lines p)) (turnsDown 9 0 refl) (first-answer (length (lines p)) 0 (lines p))
-    go (refused k i) = turnsDown k i refl

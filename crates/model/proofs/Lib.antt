@@ -23,5 +23,6 @@ pub mod DemandThree
 pub mod BackLaws
 pub mod ExpansionLaws
 pub mod OutcomeLaws
+pub mod AnswerLaws
 pub mod Edges
 pub mod AtOneProgram

@@ -20,7 +20,7 @@ use Rattle.model.proofs.BackLaws.{bits-right}
 
 -- ---- one step back
 
-never-done : {k l : ℕ} {vs : List ℕ} → refused k l ≡ done vs → ⊥
+pub never-done : {k l : ℕ} {vs : List ℕ} → refused k l ≡ done vs → ⊥
 never-done e = let z : _≡_ {A = ℕ} 0 1 = cc in omega arith
 
 pub record Passed (t : Bool) (b : Bool) (x y : Outcome) : Type 0 where

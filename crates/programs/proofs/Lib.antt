@@ -3,7 +3,6 @@ pub mod LineTexts
 pub mod ReaderLaws
 pub mod ReaderParts
 pub mod ReadRoom
-pub mod Answers
 pub mod LoadLaws
 pub mod RunLaws
 pub mod TextSizes

@@ -23,10 +23,10 @@ use Rattle.model.proofs.StoredLaws.{counted-count, never-counted, codes-length}
 use Rattle.model.proofs.RoundTrip.{read-outcome, reads-back}
 use Rattle.model.proofs.ExpansionLaws.{expansion-most, expansion-check, expansion-lines, mark-accepted}
 use Rattle.model.proofs.OutcomeLaws.{first-store}
+use Rattle.model.proofs.AnswerLaws.{CountOrRefusal, counts, refuses, either, then-answers, reading-answers, mark-answers, accepted-source, NoCount, count-told, Refusal, no-count-refuses, refusal-leaves}
 use Rattle.model.specs.Text.{fitted}
 use Rattle.programs.specs.Loading.{mostNumbers, readInput, expansionOf, loadAnswer, loadOutcome}
 use Rattle.programs.proofs.ReadRoom.{room-enough}
-use Rattle.programs.proofs.Answers.{CountOrRefusal, counts, refuses, either, then-answers, reading-answers, check-answers, NoCount, Refusal, no-count-refuses}
 
 -- ---- the definitions' clauses, with what they cite shut
 
@@ -66,11 +66,8 @@ load-answers input =
     (either (ltb inputSize (length input)) _ _ (refuses 8 0 refl)
     (then-answers (readInput input .answer) _ (then-answers (markCheck (readInput input .stored)) _ (counts (length (expansionOf input)) refl))))
 
-refusal-leaves : (r : Report) (store : List ℕ) (x : Outcome) → Refusal r → outcome r (store ∷ []) ≡ unlessRefused r (store ∷ []) x
-refusal-leaves r store x f = rw (f .is)
-
 pub load-refused : (input store : List ℕ) → Refusal (loadAnswer input) → outcome (loadAnswer input) (store ∷ []) ≡ loadOutcome input store
-load-refused input store f = refusal-leaves (loadAnswer input) store _ f ∙ sym (load-outcome input store)
+load-refused input store f = refusal-leaves f (store ∷ []) _ ∙ sym (load-outcome input store)
 
 pub too-long : (input store : List ℕ) → inputSize < length input → outcome (refused 8 0) (store ∷ []) ≡ loadOutcome input store
 too-long input store h =
@@ -105,7 +102,7 @@ module _ (input store new : List ℕ) (a : Answer) (small : length input ≤ inp
 
   module _ (n : ℕ) (counted-n : a ≡ Count n) where
     count-is : readInput input .answer ≡ counted n
-    count-is = sym answer-is ∙ ap report counted-n
+    count-is = count-told counted-n answer-is
 
     stored-length : length (readInput input .stored) ≡ lineWidth * n
     stored-length =
@@ -135,7 +132,7 @@ module _ (input store new : List ℕ) (a : Answer) (small : length input ≤ inp
         expand-outcome p listing ∙ rw (c, fits) (sym (load-outcome input listing ∙ rw (q, x)))
 
     pub read-expands : (listing : List ℕ) → mostNumbers ≤ length listing → expandOutcome (take (lineWidth * n) new) listing ≡ loadOutcome input listing
-    read-expands listing g = rw read-part (expand-loads listing g (check-answers (readInput input .stored)))
+    read-expands listing g = rw read-part (expand-loads listing g (mark-answers (readInput input .stored)))
 
 -- ---- what was loaded, and what is printed of it
 
@@ -160,10 +157,6 @@ passed true r m k n e = absurd (never-counted e)
 passed false (refused j l) m k n e = absurd (never-counted e)
 passed false (done vs) (refused j l) k n e = absurd (never-counted e)
 passed false (done vs) (done ms) k n e = record { short = refl; values = vs; read = refl; marks = ms; marked = refl; count = counted-count e }
-
-pub accepted-if : (p ms : List ℕ) → markCheck p ≡ done ms → CountOrRefusal (markCheck p) → Accepted (lines p)
-accepted-if p ms e (counts m c) = mark-accepted p m c
-accepted-if p ms e (refuses k l c) = let z : refused k l ≡ done ms = sym c ∙ e in let w : _≡_ {A = ℕ} 0 1 = cc in absurd (omega arith)
 
 module _ (input store new : List ℕ) (a : Answer) (e : outcome (report a) (new ∷ []) ≡ loadOutcome input store) where
   left-answer : (r : Report) (x : List ℕ) → unlessRefused r (store ∷ []) (outcome r (x ∷ [])) .answer ≡ r
@@ -191,7 +184,7 @@ module _ (input store new : List ℕ) (a : Answer) (e : outcome (report a) (new 
   pub loaded : (n : ℕ) → a ≡ Count n → Loaded input new n
   loaded n c =
       let p : List ℕ = readInput input .stored in
-      let q : loadAnswer input ≡ counted n = sym loaded-answer ∙ ap report c in
+      let q : loadAnswer input ≡ counted n = count-told c loaded-answer in
       let w = passed (ltb inputSize (length input)) (readInput input .answer) (markCheck p) (length (expansionOf input)) n (sym (load-answer input) ∙ q) in
       let x : expansionOf input ≡ expand (lines p) = expansion-of input in
       let o : loadOutcome input store ≡ outcome (counted n) (atFront (flatMap codes (expand (lines p))) store ∷ []) = load-outcome input store ∙ rw (q, x) in
@@ -200,7 +193,7 @@ module _ (input store new : List ℕ) (a : Answer) (e : outcome (report a) (new 
       record {
         fits = omega (arith, ap length s, k, length-append (flatMap codes (expand (lines p))) (drop (length (flatMap codes (expand (lines p)))) store));
         part = ap (take (lineWidth * n)) s ∙ take-at (flatMap codes (expand (lines p))) (drop (length (flatMap codes (expand (lines p)))) store) (lineWidth * n) k;
-        accepted = accepted-if p (w .marks) (w .marked) (check-answers p);
+        accepted = accepted-source p (w .marks) (w .marked);
         prints = λ text. printed-is text input ∙ rw (w .short, w .read, w .marked);
       }
 

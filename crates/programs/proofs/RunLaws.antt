@@ -25,11 +25,11 @@ use Rattle.model.specs.Programs.{traceBudget, orRefusal, printed, numbersText, 
 use Rattle.model.proofs.OutcomeLaws.{first-store, second-store}
 use Rattle.model.proofs.PlaceLaws.{mapAt-length}
 use Rattle.model.proofs.Runs.{run-zero, stopped, step-run}
+use Rattle.model.proofs.AnswerLaws.{NoCount}
 use Rattle.programs.specs.Printing.{rowsFrom, rowsText, linesText}
 use Rattle.model.specs.Text.{fitted}
 use Rattle.programs.specs.Loading.{loadOutcome}
 use Rattle.programs.specs.Running.{runText, endedText}
-use Rattle.programs.proofs.Answers.{NoCount}
 use Rattle.programs.proofs.LoadLaws.{Loaded, part-lines, refusal-printed}
 
 -- ---- rows of six numbers

@@ -23,12 +23,12 @@ use Rattle.model.proofs.DecimalLaws.{decimal-5}
 use Rattle.model.proofs.SpellingLaws.{line-34}
 use Rattle.model.proofs.ExpansionLaws.{expansion-most, expansion-correct}
 use Rattle.model.proofs.Runs.{run-zero, stopped, step-run}
+use Rattle.model.proofs.AnswerLaws.{accepted-source}
 use Rattle.model.specs.Text.{fitted}
 use Rattle.programs.specs.Loading.{readInput}
-use Rattle.programs.proofs.Answers.{check-answers}
 use Rattle.programs.proofs.LeftLaws.{all-fits}
 use Rattle.programs.proofs.LineTexts.{listed, cons-text}
-use Rattle.programs.proofs.LoadLaws.{printed-is, accepted-if, expand-prints}
+use Rattle.programs.proofs.LoadLaws.{printed-is, expand-prints}
 use Rattle.programs.proofs.RunLaws.{Sixes, run-sixes, ending-is, endWord, trace-text, lineRun, trace-prints}
 
 -- ---- lines of numbers
@@ -60,7 +60,7 @@ module _ (text : List Line → List ℕ) (most : ℕ) (enough : 20 ≤ most) (bo
       by true r m e = refusal-within 8 0
       by false (refused k l) m e = refusal-within k l
       by false (done vs) (refused k l) e = refusal-within k l
-      by false (done vs) (done ms) e = bound (lines (readInput input .stored)) (accepted-if (readInput input .stored) ms e (check-answers (readInput input .stored)))
+      by false (done vs) (done ms) e = bound (lines (readInput input .stored)) (accepted-source (readInput input .stored) ms e)
 
 -- ---- the expansion
 

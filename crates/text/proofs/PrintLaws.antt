@@ -1,23 +1,21 @@
 -- The lines of a program, counted and printed one after another: what is left, after the bytes so far, always gives the whole text.
 -- Assumes nothing.
 use Prim.Native.Nat.{ℕ, suc, _+_, _-_, _*_, _≤_, _<_}
-use mathlib.Core.Bool.{Bool, true, false, cond, false≢true}
 use mathlib.Core.Path.{_≡_, refl, sym, ap, _∙_}
 use mathlib.Core.List.{List, [], _∷_, _++_, flatMap}
 use native.Mathlib.Omega.{arith}
 use native.Mathlib.Nat.{zero-add}
 use lib.ListN.{length, length-append}
 use lib.Seq.{sets}
-use lib.Dec.{ltb}
 use borrow.Author.Tests.{lt-ltb, le-ltb}
 use Rattle.model.specs.declared.Answer.{Answer}
-use Rattle.model.specs.declared.Answer.the-variants.{Count, Halted, Spent, Refused}
 use Rattle.model.specs.Limits.{maxLines}
-use Rattle.model.specs.Answers.{report, refused, counted, Outcome, outcome, unlessRefused, atFront}
+use Rattle.model.specs.Answers.{report, refused, counted, outcome, atFront}
 use Rattle.model.specs.Stored.{lineAt, lineCount, linesFrom, programCheck}
 use Rattle.model.specs.Text.{spellLine, textOf, writeOutcome, fitted}
-use Rattle.model.proofs.StoredLaws.{CheckAnswer, accepts, refuses, check-answer, program-checked}
-use Rattle.text.specs.Writing.{Wrote, isRefusal}
+use Rattle.model.proofs.StoredLaws.{program-checked}
+use Rattle.model.proofs.AnswerLaws.{program-answers, NoCount, handed-on}
+use Rattle.text.specs.Writing.{Wrote}
 use Rattle.text.proofs.WroteLaws.{wrote-sets}
 
 -- the text of m lines from line i on
@@ -87,46 +85,20 @@ module _ (p old out : List ℕ) (n at i : ℕ) (q : Printed p old out n at i) wh
 
 -- ---- the answer of a writing
 
-stops : (a : Answer) → isRefusal a ≡ true → {s : List (List ℕ)} (x : Outcome) → outcome (report a) s ≡ unlessRefused (report a) s x
-unfolding isRefusal
-stops (Count n) t x = absurd (false≢true t)
-stops (Halted counter steps) t x = absurd (false≢true t)
-stops (Spent counter steps) t x = absurd (false≢true t)
-stops (Refused number line) t x = refl
+module _ (p out : List ℕ) where
+  pub write-refused : (a : Answer) → NoCount a → report a ≡ programCheck p → outcome (report a) (out ∷ []) ≡ writeOutcome p out
+  unfolding writeOutcome
+  write-refused a h e = handed-on a h (program-answers p) e (out ∷ []) _
 
-goes : (a : Answer) → isRefusal a ≡ false → (s : List (List ℕ)) (x : Outcome) → unlessRefused (report a) s x ≡ x
-unfolding isRefusal
-goes (Count n) t s x = refl
-goes (Halted counter steps) t s x = refl
-goes (Spent counter steps) t s x = refl
-goes (Refused number line) t s x = absurd (false≢true (sym t))
-
-not-refused : (a : Answer) → isRefusal a ≡ false → (j i : ℕ) → report a ≡ refused j i → ⊥
-unfolding isRefusal
-not-refused (Count n) t j i e = let z : _≡_ {A = ℕ} 0 1 = cc in omega arith
-not-refused (Halted counter steps) t j i e = let z : _≡_ {A = ℕ} 0 1 = cc in omega arith
-not-refused (Spent counter steps) t j i e = let z : _≡_ {A = ℕ} 0 1 = cc in omega arith
-not-refused (Refused number line) t j i e = false≢true (sym t)
-
-few-lines : {p : List ℕ} (a : Answer) → isRefusal a ≡ false → CheckAnswer p (programCheck p) → report a ≡ programCheck p → lineCount p ≤ maxLines
-few-lines {p} a t (accepts c) e = program-checked p (lineCount p) c .few
-few-lines {p} a t (refuses j i c) e = absurd (not-refused a t j i (e ∙ c))
-
-module _ (p out : List ℕ) (a : Answer) (e : report a ≡ programCheck p) where
-  write-outcome : writeOutcome p out ≡ unlessRefused (report a) (out ∷ []) (cond (ltb (length out) (length (textOf p))) (outcome (refused 17 0) (out ∷ [])) (outcome (counted (length (textOf p))) (atFront (textOf p) out ∷ [])))
-  unfolding writeOutcome fitted
-  write-outcome = rw e
-
-  pub write-refused : isRefusal a ≡ true → outcome (report a) (out ∷ []) ≡ writeOutcome p out
-  write-refused t = stops a t (cond (ltb (length out) (length (textOf p))) (outcome (refused 17 0) (out ∷ [])) (outcome (counted (length (textOf p))) (atFront (textOf p) out ∷ []))) ∙ sym write-outcome
-
-  -- an answer that is no refusal: the program is right, and its text is written where there is room
-  module _ (t : isRefusal a ≡ false) where
+  -- a right program: its text is written where there is room
+  module _ (n : ℕ) (e : programCheck p ≡ counted n) where
     pub write-room : length out < length (textOf p) → outcome (refused 17 0) (out ∷ []) ≡ writeOutcome p out
-    write-room h = sym (write-outcome ∙ goes a t (out ∷ []) _ ∙ ap (λ (u : Bool). cond u (outcome (refused 17 0) (out ∷ [])) (outcome (counted (length (textOf p))) (atFront (textOf p) out ∷ []))) (lt-ltb (length out) (length (textOf p)) h))
+    unfolding writeOutcome
+    write-room h = rw (e, lt-ltb (length out) (length (textOf p)) h)
 
     pub write-done : length (textOf p) ≤ length out → outcome (counted (length (textOf p))) (atFront (textOf p) out ∷ []) ≡ writeOutcome p out
-    write-done h = sym (write-outcome ∙ goes a t (out ∷ []) _ ∙ ap (λ (u : Bool). cond u (outcome (refused 17 0) (out ∷ [])) (outcome (counted (length (textOf p))) (atFront (textOf p) out ∷ []))) (le-ltb (length out) (length (textOf p)) h))
+    unfolding writeOutcome
+    write-done h = rw (e, le-ltb (length out) (length (textOf p)) h)
 
     pub write-few : lineCount p ≤ maxLines
-    write-few = few-lines a t (check-answer p) e
+    write-few = let c = program-checked p n e in omega arith

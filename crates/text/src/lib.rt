@@ -10,7 +10,7 @@ ghost use Rattle.model.specs.Limits.{maxLines};
 ghost use Rattle.model.specs.Stored.{linesFrom};
 ghost use Rattle.model.specs.Text.{spellLine, frontLine, readOutcome, writeOutcome};
 ghost use Rattle.text.specs.Lines.{meaning, numbersOf, kept};
-ghost use Rattle.text.specs.Writing.{Wrote, isRefusal};
+ghost use Rattle.text.specs.Writing.{Wrote};
 
 pub mod cut;
 mod fields;
@@ -137,32 +137,14 @@ fn print(program: &[u16], n: usize, out: &mut [u8]) -> usize
     at
 }
 
-// Whether an answer is a refusal.
-fn refuses(answer: Answer) -> bool
-    ensures { λ r. ⌜ r ≡ isRefusal answer ⌝ }
-{
-    match answer {
-        Answer::Count(_) => false,
-        Answer::Halted {
-            counter: _,
-            steps: _,
-        } => false,
-        Answer::Spent {
-            counter: _,
-            steps: _,
-        } => false,
-        Answer::Refused { number: _, line: _ } => true,
-    }
-}
-
 // Writes the text of a stored program, whose length is known before a byte is written.
 pub fn write(program: &[u16], out: &mut [u8]) -> Answer
     ensures { λ r. ⌜ outcome (report r) (now (out .exit) ∷ []) ≡ writeOutcome (now (program .entry)) (now (out .entry)) ⌝ }
 {
     let checked = check_program(program);
-    if refuses(checked) {
+    let Answer::Count(_) = checked else {
         return checked;
-    }
+    };
     let n = program.len() / LINE_WIDTH;
     let size = text_size(program, n);
     if out.len() < size {
