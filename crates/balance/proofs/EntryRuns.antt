@@ -4,7 +4,7 @@ use mathlib.Core.Path.{_≡_, refl, sym, ap, ap₂, _∙_, subst, subst₂}
 use mathlib.Core.Bool.{Bool, true, false, cond}
 use mathlib.Core.List.{List, [], _∷_, flatMap}
 use Prim.Native.Nat.{ℕ, _*_, _≤_}
-use borrow.Author.Tests.{le-ltb, eq-eqb}
+use borrow.Author.Tests.{eq-eqb}
 use lib.Dec.{ltb}
 use lib.ListN.{length, take, drop}
 use lib.Seq.{take-at}
@@ -14,16 +14,16 @@ use Rattle.model.specs.Answers.{Report, done, counted, Outcome, outcome, atFron
 use Rattle.model.specs.Places.{State}
 use Rattle.model.specs.Stored.{codes, lineCount, lines, programCheck}
 use Rattle.model.specs.Run.{Ran, run, answer, runLeaves, runOutcome}
-use Rattle.model.specs.Images.{BitState, ButScratch, image, back, every, imageRight, imageAt, carried, fromImageOutcome}
+use Rattle.model.specs.Images.{BitState, ButScratch, image, back, every, imageRight, carried, fromImageOutcome}
 use Rattle.model.specs.Expansion.{start, expand}
 use Rattle.model.specs.Marks.{markCheck, Accepted}
 use Rattle.model.specs.Claims.{span}
 use Rattle.model.proofs.TestLaws.{is-true}
-use Rattle.model.proofs.PlaceLaws.{mapAt-length}
+use Rattle.model.proofs.PlaceLaws.{image-length}
 use Rattle.model.proofs.StoredLaws.{codes-length, CheckAnswer, accepts, refuses, check-answer}
 use Rattle.model.proofs.ExpansionLaws.{expansion-check, expansion-lines}
 use Rattle.model.proofs.BackLaws.{back-image, image-passes}
-use Rattle.model.proofs.OutcomeLaws.{never-done, expansion-written, image-made, first-store}
+use Rattle.model.proofs.OutcomeLaws.{never-done, run-outcome, expansion-written, image-made, first-store}
 use Rattle.model.proofs.AnswerLaws.{accepted-source}
 use Rattle.model.proofs.DemandThree.{equal-traces, correspondence}
 use Rattle.balance.specs.EntryClaims.{Expanded, listing, SameCalls, EqualTraceStores, FollowingCalls, SourceFollowed, Twin, Followable}
@@ -60,16 +60,7 @@ listed p e n E =
       lines-are = ap lines is ∙ expansion-lines (lines p) A;
     }
 
--- ---- a call of `run` that is not refused
-
-run-goes : (q : List ℕ) (k b n : ℕ) (s : State) (x : List ℕ) → programCheck q ≡ counted n → length s ≡ stateSize → rowWidth * b ≤ length x
-    → runOutcome q k b s x ≡ runLeaves (lines q) (run (lines q) b k s) x
-unfolding runOutcome
-run-goes q k b n s x e l h = rw (e, eq-eqb (length s) stateSize l, le-ltb (length x) (rowWidth * b) h)
-
-image-length : (s : State) → BitState s → length (image s) ≡ stateSize
-unfolding image
-image-length s b = mapAt-length imageAt 0 s ∙ b .long
+-- ---- what a run leaves
 
 -- the ending, 0 or 1, that an answer begins with
 ending : List Line → Ran → ℕ
@@ -103,7 +94,7 @@ equal-trace-stores p e n E s t v w S U same k b x y hx hy =
     let call : (u u′ : State) (z : List ℕ) → u′ ≡ image u → BitState u → rowWidth * b ≤ length z → runOutcome (listing e n) i b u′ z ≡ runLeaves q (run q b i (image u)) z =
     λ u u′ z eu bu hz.
     ap (λ (a : State). runOutcome (listing e n) i b a z) eu
-    ∙ run-goes (listing e n) i b (length q) (image u) z (L .checked) (image-length u bu) hz
+    ∙ run-outcome (listing e n) i b (length q) (image u) z (L .checked) (image-length u ∙ bu .long) hz
     ∙ ap (λ (a : List Line). runLeaves a (run a b i (image u)) z) (L .lines-are) in
     let answers : answer q one ≡ answer q other = R .answers in
     let rows : flatMap (λ r. r) (other .rows) ≡ flatMap (λ r. r) (one .rows) = ap (flatMap (λ r. r)) (sym (R .traces)) in
@@ -123,7 +114,7 @@ equal-trace-stores p e n E s t v w S U same k b x y hx hy =
 back-goes : (s v lent : State) → BitState s → ButScratch v (image s) → length lent ≡ stateSize → fromImageOutcome v lent ≡ outcome (counted stateSize) (s ∷ [])
 unfolding carried ButScratch
 back-goes s v lent b h l =
-    rw (eq-eqb (length v) stateSize (h .0 ∙ image-length s b), eq-eqb (length lent) stateSize l, is-true (every imageRight 0 v) (image-passes s v b h))
+    rw (eq-eqb (length v) stateSize (h .0 ∙ image-length s ∙ b .long), eq-eqb (length lent) stateSize l, is-true (every imageRight 0 v) (image-passes s v b h))
     (ap (λ (z : State). outcome (counted stateSize) (z ∷ [])) (back-image s v b h))
 
 pub source-followed : SourceFollowed
@@ -145,10 +136,10 @@ source-followed p e n E s v S k m x y hx hy =
       endingExpanded = ending q expansion;
       state = expansion .state;
       traceExpanded = atFront (flatMap (λ r. r) (expansion .rows)) y;
-      sourceCall = run-goes p k m (lineCount p) s x (L .source) (A .0 .long) hx ∙ leaves-is (lines p) source x;
+      sourceCall = run-outcome p k m (lineCount p) s x (L .source) (A .0 .long) hx ∙ leaves-is (lines p) source x;
       expansionCall =
           ap (λ (a : State). runOutcome (listing e n) i b a y) (A .1)
-          ∙ run-goes (listing e n) i b (length q) (image s) y (L .checked) (image-length s (A .0)) hy
+          ∙ run-outcome (listing e n) i b (length q) (image s) y (L .checked) (image-length s ∙ A .0 .long) hy
           ∙ ap (λ (a : List Line). runLeaves a (run a b i (image s)) y) (L .lines-are)
           ∙ leaves-is q expansion y
           ∙ ap₂ (λ (c l : ℕ). outcome (done (ending q expansion ∷ c ∷ l ∷ [])) (expansion .state ∷ atFront (flatMap (λ r. r) (expansion .rows)) y ∷ [])) (F .stands) (F .steps);

@@ -1,6 +1,6 @@
 -- Which fields an opcode fills, as four bits: one test for each way of filling, over all opcodes.
 -- Assumes nothing.
-use mathlib.Core.Path.{_≡_, refl}
+use mathlib.Core.Path.{_≡_}
 use mathlib.Core.Bool.{Bool, true, false, Bool·beq}
 use Prim.Native.Nat.{ℕ, _+_, _≤_}
 use lib.Dec.{T, eqb}
@@ -10,6 +10,7 @@ use Rattle.model.specs.Lines.{filled, fills}
 use Rattle.model.specs.Stored.{opcodes, opcodeOf, sameFilled}
 use Rattle.model.proofs.TestLaws.{below, allBelow, all-below}
 use Rattle.model.proofs.Forms.{opcode-past}
+use Rattle.model.proofs.StoredLaws.{beq-same}
 use Rattle.coding.specs.Fields.{bitOf, shapeOf}
 
 abbrev bits : Bool → Bool → Bool → Bool → ℕ
@@ -37,12 +38,6 @@ all-shapes false false true false = tt
 all-shapes false false false true = tt
 all-shapes false false false false = tt
 
-same : (t u : Bool) → T (Bool·beq t u) → t ≡ u
-same true true e = refl
-same true false e = absurd e
-same false true e = absurd e
-same false false e = refl
-
 -- past the opcodes a number fills what the first of them fills
 shape-past : (o : ℕ) → opcodes ≤ o → shapeOf o ≡ shapeOf 0
 unfolding shapeOf
@@ -51,5 +46,5 @@ shape-past o h =
 
 pub shape-tests : (o : ℕ) (d a b t : Bool) → eqb (bits d a b t) (shapeOf o) ≡ sameFilled (fills (opcodeOf o)) (filled d a b t)
 shape-tests o d a b t =
-    below o opcodes (λ h. same _ _ (all-below (right d a b t) opcodes o (all-shapes d a b t) h))
-    (λ h. rw (shape-past o h, opcode-past o h) (same _ _ (all-below (right d a b t) opcodes 0 (all-shapes d a b t) (omega arith))))
+    below o opcodes (λ h. beq-same _ _ (all-below (right d a b t) opcodes o (all-shapes d a b t) h))
+    (λ h. rw (shape-past o h, opcode-past o h) (beq-same _ _ (all-below (right d a b t) opcodes 0 (all-shapes d a b t) (omega arith))))

@@ -10,13 +10,13 @@ use lib.Dec.{ltb}
 use lib.ListN.{length, take, drop, length-append, length-drop, take-append-drop}
 use lib.Seq.{take-at, length-take-le, drop-drop, drop-append-add}
 use borrow.Author.Tests.{ltb-true, ltb-false}
-use Rattle.model.specs.declared.Line.{Line}
 use Rattle.model.specs.Limits.{rowWidth}
 use Rattle.model.specs.Answers.{halted, spent, Outcome, outcome}
 use Rattle.model.specs.Stored.{lineAt, lineCount, lines}
 use Rattle.model.specs.Step.{Row, next, after, row}
 use Rattle.model.specs.Run.{Ran, push, run, answer, runLeaves}
 use Rattle.model.proofs.StoredLaws.{length-lines, get-line, no-line}
+use Rattle.model.proofs.Runs.{row-length, flat}
 use Rattle.machine.specs.Loop.{Machine, machine, putRow, stepBy, stepOf, haltedAt, spentAt, runFrom}
 
 -- ---- a row in the store
@@ -39,14 +39,7 @@ module _ (t : List ℕ) (j : ℕ) (r : Row) (e : length r ≡ rowWidth) (h : row
   put-length : length (putRow t j r) ≡ length t
   put-length = omega (arith, front, length-append (take (rowWidth * j) t ++ r) (drop (rowWidth * j + rowWidth) t), length-drop (rowWidth * j + rowWidth) t)
 
-row-length : (l : Line) (k : ℕ) (s : List ℕ) → length (row l k s) ≡ rowWidth
-unfolding row
-row-length l k s = refl
-
 -- ---- what a run from a machine leaves, of which steps were done already
-
-abbrev flat : List Row → List ℕ
-flat = flatMap (λ (r : Row). r)
 
 abbrev left : Machine → ℕ → Ran → Outcome
 left m n x =

@@ -17,7 +17,7 @@ use Rattle.model.specs.Places.{State, kind}
 use Rattle.model.specs.Code.{code, page}
 use Rattle.model.specs.Images.{Bit, BitState, fixed, imageAt, backAt, image, back, bitRight, imageRight, every, ButScratch}
 use Rattle.model.proofs.TestLaws.{holds, and-both, both-and}
-use Rattle.model.proofs.PlaceLaws.{mapAt-length, mapAt-getD}
+use Rattle.model.proofs.PlaceLaws.{mapAt-length, mapAt-getD, image-length}
 
 -- ---- there and back
 
@@ -68,7 +68,7 @@ back-image s v b h =
     (λ i g. mapAt-getD backAt 0 v i (len i g) ∙ ap (λ (j : ℕ). backAt j (getD v i 0)) (zero-add i) ∙ at i (len i g) (scratch i))
   where
     lv : length v ≡ length s
-    lv = h .0 ∙ mapAt-length imageAt 0 s
+    lv = h .0 ∙ image-length s
 
     len : (i : ℕ) → i < length (back v) → i < length v
     len i g = omega (arith, mapAt-length backAt 0 v)
@@ -79,7 +79,7 @@ back-image s v b h =
     at : (i : ℕ) → i < length v → ((1 ≤ i) × (i ≤ 3)) ⊎ ((1 ≤ i) × (i ≤ 3) → ⊥) → backAt i (getD v i 0) ≡ getD s i 0
     at i g (inl q) = back-fixed i (getD v i 0) (scratch-fixed i q) ∙ sym (zero-at i (getD s i 0) (scratch-fixed i q) (b .bits i (omega (arith, lv, b .long))))
     at i g (inr q) =
-        ap (backAt i) (h .1 i (omega (arith, mapAt-length imageAt 0 s, lv)) q ∙ img i g) ∙ back-at i (getD s i 0) (b .bits i (omega (arith, lv, b .long))) (kind i) refl
+        ap (backAt i) (h .1 i (omega (arith, image-length s, lv)) q ∙ img i g) ∙ back-at i (getD s i 0) (b .bits i (omega (arith, lv, b .long))) (kind i) refl
 
 -- ---- condition 19 on the way there: what passes is a bit state
 
@@ -145,11 +145,11 @@ unfolding ButScratch image
 image-passes s v b h = every-passes imageRight 0 v (λ i g. subst (λ (m : ℕ). T (imageRight m (getD v i 0))) (sym (zero-add i)) (at i g (scratch i)))
   where
     lv : length v ≡ length s
-    lv = h .0 ∙ mapAt-length imageAt 0 s
+    lv = h .0 ∙ image-length s
 
     at : (i : ℕ) → i < length v → ((1 ≤ i) × (i ≤ 3)) ⊎ ((1 ≤ i) × (i ≤ 3) → ⊥) → T (imageRight i (getD v i 0))
     at i g (inl q) = scratch-right i (getD v i 0) q
     at i g (inr q) =
         let e : getD v i 0 ≡ imageAt i (getD s i 0) =
-        h .1 i (omega (arith, mapAt-length imageAt 0 s, lv)) q ∙ mapAt-getD imageAt 0 s i (omega (arith, lv)) ∙ ap (λ (j : ℕ). imageAt j (getD s i 0)) (zero-add i) in
+        h .1 i (omega (arith, image-length s, lv)) q ∙ mapAt-getD imageAt 0 s i (omega (arith, lv)) ∙ ap (λ (j : ℕ). imageAt j (getD s i 0)) (zero-add i) in
         subst (λ (x : ℕ). T (imageRight i x)) (sym e) (image-right-at i (getD s i 0) (b .bits i (omega (arith, lv, b .long))) (kind i) refl)

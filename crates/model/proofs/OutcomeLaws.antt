@@ -1,21 +1,22 @@
--- What an outcome that is no refusal says: an image that was made, a run that was done, an expansion that was written. Each test on the
--- way passed, since the other branch is a refusal. Assumes nothing.
+-- What an outcome that is no refusal says: an image that was made, an expansion that was written. Each test on the way passed, since the
+-- other branch is a refusal. And what a run leaves where each test passes. Assumes nothing.
 use mathlib.Core.Path.{_≡_, refl, sym, ap}
 use mathlib.Core.Bool.{Bool, true, false, cond}
 use mathlib.Core.List.{List, [], _∷_, flatMap}
 use Prim.Native.Nat.{ℕ, _*_, _≤_}
 use native.Mathlib.Omega.{arith}
-use borrow.Author.Tests.{ltb-false, eqb-true}
+use borrow.Author.Tests.{le-ltb, ltb-false, eq-eqb, eqb-true}
 use lib.Dec.{ltb, eqb}
 use lib.ListN.{length, getD}
 use Rattle.model.specs.Limits.{stateSize, rowWidth}
 use Rattle.model.specs.Answers.{Report, done, refused, counted, Outcome, outcome, unlessRefused, atFront}
 use Rattle.model.specs.Places.{State}
 use Rattle.model.specs.Stored.{lines, lineCount, codes, programCheck}
-use Rattle.model.specs.Run.{run, answer, runLeaves, runOutcome}
+use Rattle.model.specs.Run.{run, runLeaves, runOutcome}
 use Rattle.model.specs.Images.{BitState, image, every, bitRight, carried}
 use Rattle.model.specs.Expansion.{expand, expandOutcome, written}
 use Rattle.model.specs.Marks.{markCheck}
+use Rattle.model.proofs.StoredLaws.{counted-count}
 use Rattle.model.proofs.BackLaws.{bits-right}
 
 -- ---- one step back
@@ -78,31 +79,11 @@ image-made bits into v vs e =
 
 -- ---- runs
 
-pub record RunDone (p : List ℕ) (k b : ℕ) (s : State) (t : List ℕ) (vs : List ℕ) (s′ : State) (t′ : List ℕ) : Type 0 where
-  pub values : List ℕ
-  pub checked : programCheck p ≡ done values
-  pub long : length s ≡ stateSize
-  pub room : rowWidth * b ≤ length t
-  pub answered : done vs ≡ answer (lines p) (run (lines p) b k s)
-  pub state : s′ ≡ run (lines p) b k s .state
-  pub trace : t′ ≡ atFront (flatMap (λ r. r) (run (lines p) b k s .rows)) t
-
-pub run-done : (p : List ℕ) (k b : ℕ) (s : State) (t vs : List ℕ) (s′ : State) (t′ : List ℕ)
-    → runOutcome p k b s t ≡ outcome (done vs) (s′ ∷ t′ ∷ []) → RunDone p k b s t vs s′ t′
-unfolding runOutcome runLeaves
-run-done p k b s t vs s′ t′ e =
-    let w = went (programCheck p) _ (s ∷ t ∷ []) e in
-    let w1 = passed-if (eqb (length s) stateSize) _ 18 0 (s ∷ t ∷ []) (w .then) in
-    let w2 = passed-unless (ltb (length t) (rowWidth * b)) (runLeaves (lines p) (run (lines p) b k s) t) 20 0 (s ∷ t ∷ []) (w1 .then) in
-    record {
-      values = w .values;
-      checked = w .check;
-      long = eqb-true _ _ (w1 .test);
-      room = ltb-false _ _ (w2 .test);
-      answered = sym (ap (λ (o : Outcome). o .answer) (w2 .then));
-      state = sym (ap first-store (w2 .then));
-      trace = sym (ap second-store (w2 .then));
-    }
+-- a run that no check refuses
+pub run-outcome : (p : List ℕ) (k b n : ℕ) (s t : List ℕ) → programCheck p ≡ counted n → length s ≡ stateSize → rowWidth * b ≤ length t
+    → runOutcome p k b s t ≡ runLeaves (lines p) (run (lines p) b k s) t
+unfolding runOutcome
+run-outcome p k b n s t e h g = rw (e, eq-eqb (length s) stateSize h, le-ltb (length t) (rowWidth * b) g)
 
 -- ---- expansions
 
@@ -113,9 +94,6 @@ pub record Written (p out : List ℕ) (n : ℕ) (e : List ℕ) : Type 0 where
   pub count : n ≡ length (expand (lines p))
   pub listing : e ≡ atFront (flatMap codes (expand (lines p))) out
 
-one-value : {m n : ℕ} → counted m ≡ counted n → m ≡ n
-one-value e = cc
-
 pub expansion-written : (p out : List ℕ) (n : ℕ) (e : List ℕ) → expandOutcome p out ≡ outcome (counted n) (e ∷ []) → Written p out n e
 unfolding expandOutcome written
 expansion-written p out n e h =
@@ -125,6 +103,6 @@ expansion-written p out n e h =
       values = w .values;
       checked = w .check;
       room = ltb-false _ _ (w1 .test);
-      count = sym (one-value (ap (λ (o : Outcome). o .answer) (w1 .then)));
+      count = sym (counted-count (ap (λ (o : Outcome). o .answer) (w1 .then)));
       listing = sym (ap first-store (w1 .then));
     }

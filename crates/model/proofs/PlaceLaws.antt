@@ -13,7 +13,7 @@ use lib.Seq.{getD-set-same, getD-set-other}
 use Rattle.model.specs.declared.Kind.{Kind}
 use Rattle.model.specs.declared.Kind.the-variants.{Neither, Public, Sensitive}
 use Rattle.model.specs.Places.{State, kind}
-use Rattle.model.specs.Images.{Bit, BitState, mapAt, SamePublic}
+use Rattle.model.specs.Images.{Bit, BitState, mapAt, imageAt, image, SamePublic}
 
 -- ---- kinds
 
@@ -46,6 +46,10 @@ pub mapAt-length : (f : ℕ → ℕ → ℕ) (i : ℕ) (l : List ℕ) → length
 unfolding mapAt
 mapAt-length f i [] = refl
 mapAt-length f i (x ∷ l) = ap suc (mapAt-length f (suc i) l)
+
+pub image-length : (s : State) → length (image s) ≡ length s
+unfolding image
+image-length s = mapAt-length imageAt 0 s
 
 pub mapAt-getD : (f : ℕ → ℕ → ℕ) (i : ℕ) (l : List ℕ) (n : ℕ) → n < length l → getD (mapAt f i l) n 0 ≡ f (i + n) (getD l n 0)
 unfolding mapAt

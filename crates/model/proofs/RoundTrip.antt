@@ -92,7 +92,7 @@ pub record Read (more n room k : ℕ) (text stored : List ℕ) : Type 0 where
   pub stored-is : stored ≡ flatMap codes lines-are
   pub text-is : flatMap spellLine lines-are ≡ text
 
-no-text : (s : List ℕ) → length s ≡ 0 → [] ≡ s
+pub no-text : (s : List ℕ) → length s ≡ 0 → [] ≡ s
 no-text [] h = refl
 no-text (b ∷ s) h = absurd (omega arith)
 

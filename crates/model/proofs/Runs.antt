@@ -1,13 +1,14 @@
 -- Runs joined and cut: a run is its first steps and then the run from where they end, so a smaller budget gives a prefix. By induction
 -- over the budget. Assumes nothing.
 use mathlib.Core.Path.{_≡_, refl, sym, ap, ap₂, _∙_}
-use mathlib.Core.List.{List, [], _∷_, _++_}
+use mathlib.Core.List.{List, [], _∷_, _++_, flatMap}
 use mathlib.Core.Option.{Option, none, some}
 use Prim.Native.Nat.{ℕ, zero, suc, _+_, _<_}
 use native.Mathlib.Nat.{zero-add, suc-add, le-of-suc-le-suc, not-suc-le-zero}
 use native.Mathlib.Omega.{arith}
 use lib.ListN.{length, getD, take, drop, getElem?}
 use Rattle.model.specs.declared.Line.{Line}
+use Rattle.model.specs.Limits.{rowWidth}
 use Rattle.model.specs.Places.{State}
 use Rattle.model.specs.Step.{Row, row, next, after}
 use Rattle.model.specs.Run.{Ran, push, run}
@@ -28,6 +29,14 @@ step-run p k s l e n = rw (e, run)
 pub run-zero : (p : List Line) (k : ℕ) (s : State) → run p zero k s ≡ ran k s []
 unfolding run
 run-zero p k s = refl
+
+pub row-length : (l : Line) (k : ℕ) (s : State) → length (row l k s) ≡ rowWidth
+unfolding row
+row-length l k s = refl
+
+-- the rows of a trace, one after another
+abbrev pub flat : List Row → List ℕ
+flat = flatMap (λ (r : Row). r)
 
 -- a run, and what a second one adds from where it stands
 abbrev pub joinRuns : Ran → Ran → Ran

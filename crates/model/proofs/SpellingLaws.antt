@@ -24,6 +24,7 @@ use Rattle.model.specs.Lines.{fills, operandRight, targetRight, correct}
 use Rattle.model.specs.Stored.{marks, opcodes, operands, targets, markCode, opcodeCode, operandCode, targetCode, markOf, opcodeOf, operandOf, targetOf}
 use Rattle.model.specs.Text.{newline, comma, decimal, indirect, spellMark, spellOpcode, spellOperand, spellTarget, spellLine, sameBytes, spelledFrom, markField, opcodeField, operandField, targetField, upTo, past, countOf}
 use Rattle.model.proofs.TestLaws.{below, is-true, holds, and-both}
+use Rattle.model.proofs.Forms.{operand-number}
 use Rattle.model.proofs.StoredLaws.{operand-back, target-back, mark-back, opcode-back, correct-fields}
 use Rattle.model.proofs.DecimalLaws.{valueFrom, decimal-value, decimal-digits, decimal-5, decimal-3, decimal-2, decimal-some}
 use Rattle.model.proofs.CutLaws.{count-append, count-other, digits-clean, upTo-clean, past-clean}
@@ -129,7 +130,7 @@ unfolding valueFrom
 targetIn s = cond (eqb (length s) 0) NoTarget (ToLine (valueFrom 0 s))
 
 -- `rN+k` after its sign
-abbrev based : ℕ → ℕ → List ℕ
+abbrev pub based : ℕ → ℕ → List ℕ
 based r k = 114 ∷ (decimal r ++ (43 ∷ decimal k))
 
 module _ (r k : ℕ) (hr : r < 32) (hk : k < 256) where
@@ -212,11 +213,9 @@ target-text true (ToLine t) h =
 
 pub operand-distinct : Distinct (λ n. spellOperand (operandOf n)) operands
 operand-distinct j k hj hk e =
-    let wj = operand-back j hj in
-    let wk = operand-back k hk in
-    sym (wj .same)
-    ∙ ap operandCode (sym (operand-text (ltb 0 j) (operandOf j) (wj .right) .same) ∙ ap operandIn e ∙ operand-text (ltb 0 k) (operandOf k) (wk .right) .same)
-    ∙ wk .same
+    sym (operand-number j)
+    ∙ ap operandCode (sym (operand-text (ltb 0 j) (operandOf j) (operand-back j hj) .same) ∙ ap operandIn e ∙ operand-text (ltb 0 k) (operandOf k) (operand-back k hk) .same)
+    ∙ operand-number k
 
 pub target-distinct : Distinct (λ n. spellTarget (targetOf n)) targets
 target-distinct j k hj hk e =
@@ -281,7 +280,7 @@ module _ (s : List ℕ) (k : ℕ) where
 
 module _ (k : ℕ) where
   pub operand-filled : k < operands → ltb 0 (length (spellOperand (operandOf k))) ≡ ltb 0 k
-  operand-filled h = operand-text (ltb 0 k) (operandOf k) (operand-back k h .right) .filled
+  operand-filled h = operand-text (ltb 0 k) (operandOf k) (operand-back k h) .filled
 
   pub target-filled : k < targets → ltb 0 (length (spellTarget (targetOf k))) ≡ ltb 0 k
   target-filled h = target-text (ltb 0 k) (targetOf k) (target-back k h .0) .filled

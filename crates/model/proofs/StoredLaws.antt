@@ -23,33 +23,25 @@ use Rattle.model.specs.Limits.{lineWidth, maxLines}
 use Rattle.model.specs.Answers.{Report, counted, refused}
 use Rattle.model.specs.Lines.{Filled, filled, fills, isLiteral, operandRight, targetRight, correct, AllCorrect}
 use Rattle.model.specs.Stored.{literals, registers, cells, publics, sensitives, tables, marks, opcodes, operands, targets, markCode, opcodeCode, operandCode, targetCode, codes, markOf, opcodeOf, operandOf, targetOf, lineOf, Field, Parsed, numbers, wrong, orWrong, sameFilled, noLiteral, parsed, storedField, parsedNumbers, fault, lineCount, atLine, lineAt, faultAt, linesFrom, lines, checkFrom, programCheck}
-use Rattle.model.proofs.Forms.{empty, literal, register, cell, public-cell, sensitive-cell, table-cell, operand-number}
+use Rattle.model.proofs.Forms.{literal, register, cell, public-cell, sensitive-cell, table-cell, by-form, operand-number}
 use Rattle.model.proofs.TestLaws.{below, is-true, holds, and-both, both-and, some-if, get-past}
 
 -- ---- a field's number, its form, and its number again
 
--- what a number below `operands` stands for: an operand in its range, of the same number
-pub record Operands (n : ℕ) : Type 0 where
-  pub right : T (operandRight (ltb 0 n) (operandOf n))
-  pub same : operandCode (operandOf n) ≡ n
-
-stands-for : (n : ℕ) (op : Operand) → operandOf n ≡ op → T (operandRight (ltb 0 n) op) → Operands n
-stands-for n op e r = record { right = rw e r; same = operand-number n }
-
 two-below : (r b k c : ℕ) → r < b → k < c → T (ltb r b && ltb k c)
 two-below r b k c h g = both-and (ltb r b) (ltb k c) (lt→ltb r b h) (lt→ltb k c g)
 
-pub operand-back : (n : ℕ) → n < operands → Operands n
+-- a number below `operands` stands for an operand in its range
+pub operand-back : (n : ℕ) → n < operands → T (operandRight (ltb 0 n) (operandOf n))
 unfolding operandRight
 operand-back n h =
-    below n literals (λ l. stands-for n _ (empty n l) (rw (le-ltb 0 n (omega arith)) tt)) (λ g.
-    let some-field : ltb 0 n ≡ true = lt-ltb 0 n (omega arith) in
-    below n registers (λ l. stands-for n _ (literal n g l) (rw some-field (omega (arith, le→leb)))) (λ g.
-    below n cells (λ l. stands-for n _ (register n g l) (rw some-field (omega (arith, lt→ltb)))) (λ g.
-    below n publics (λ l. stands-for n _ (cell n g l) (rw some-field (omega (arith, lt→ltb)))) (λ g.
-    below n sensitives (λ l. stands-for n _ (public-cell n g l) (rw some-field (two-below ((n - publics) / 128) 32 ((n - publics) % 128) 128 (omega arith) (omega arith)))) (λ g.
-    below n tables (λ l. stands-for n _ (sensitive-cell n g l) (rw some-field (two-below ((n - sensitives) / 128) 32 ((n - sensitives) % 128) 128 (omega arith) (omega arith)))) (λ g.
-    stands-for n _ (table-cell n g) (rw some-field (two-below ((n - tables) / 256) 32 ((n - tables) % 256) 256 (omega arith) (omega arith)))))))))
+    by-form n (λ o. T (operandRight (ltb 0 n) o)) (λ l. rw (le-ltb 0 n (omega arith)) tt)
+    (λ g l. rw (lt-ltb 0 n (omega arith)) (omega (arith, le→leb)))
+    (λ g l. rw (lt-ltb 0 n (omega arith)) (omega (arith, lt→ltb)))
+    (λ g l. rw (lt-ltb 0 n (omega arith)) (omega (arith, lt→ltb)))
+    (λ g l. rw (lt-ltb 0 n (omega arith)) (two-below ((n - publics) / 128) 32 ((n - publics) % 128) 128 (omega arith) (omega arith)))
+    (λ g l. rw (lt-ltb 0 n (omega arith)) (two-below ((n - sensitives) / 128) 32 ((n - sensitives) % 128) 128 (omega arith) (omega arith)))
+    (λ g. rw (lt-ltb 0 n (omega arith)) (two-below ((n - tables) / 256) 32 ((n - tables) % 256) 256 (omega arith) (omega arith)))
 
 pub target-back : (n : ℕ) → n < targets → T (targetRight (ltb 0 n) (targetOf n)) × (targetCode (targetOf n) ≡ n)
 unfolding targetOf targetRight
@@ -297,14 +289,14 @@ module _ (m o d a b t : ℕ) where
 
   pub right-back : Right m o d a b t → codes (lineOf m o d a b t) ≡ m ∷ o ∷ d ∷ a ∷ b ∷ t ∷ []
   right-back r =
-      rw (mark-back m (r .mark), opcode-back o (r .opcode), operand-back d (r .destination) .same, operand-back a (r .first) .same, operand-back b (r .second) .same, target-back t (r .target) .1)
+      rw (mark-back m (r .mark), opcode-back o (r .opcode), operand-number d, operand-number a, operand-number b, target-back t (r .target) .1)
 
   pub numbers-back : fault (parsedNumbers m o d a b t) ≡ 0 → codes (lineOf m o d a b t) ≡ m ∷ o ∷ d ∷ a ∷ b ∷ t ∷ []
   numbers-back e = right-back (fault-right e)
 
 -- ---- correct lines
 
-beq-same : (x y : Bool) → T (Bool·beq x y) → x ≡ y
+pub beq-same : (x y : Bool) → T (Bool·beq x y) → x ≡ y
 beq-same true true h = refl
 beq-same true false h = absurd h
 beq-same false true h = absurd h
@@ -376,10 +368,10 @@ module _ (m o d a b t : ℕ) where
   right-correct r =
       let s = same-parts (fills (opcodeOf o)) (filled (ltb 0 d) (ltb 0 a) (ltb 0 b) (ltb 0 t)) (r .fills-so) in
       fields-correct (lineOf m o d a b t) (record {
-        destination = rw (s .destination) (operand-back d (r .destination) .right);
+        destination = rw (s .destination) (operand-back d (r .destination));
         place = r .place;
-        first = rw (s .first) (operand-back a (r .first) .right);
-        second = rw (s .second) (operand-back b (r .second) .right);
+        first = rw (s .first) (operand-back a (r .first));
+        second = rw (s .second) (operand-back b (r .second));
         target = rw (s .target) (target-back t (r .target) .0);
       })
 

@@ -14,6 +14,7 @@ use Rattle.model.specs.declared.Answer.{Answer}
 use Rattle.model.specs.declared.Answer.the-variants.{Count}
 use Rattle.model.specs.Answers.{report, counted, refused, Outcome, outcome, atFront}
 use Rattle.model.proofs.StoredLaws.{counted-count, never-counted}
+use Rattle.model.proofs.RoundTrip.{no-text}
 use Rattle.model.proofs.OutcomeLaws.{first-store}
 use Rattle.text.specs.Writing.{Wrote}
 use Rattle.text.proofs.StoreLaws.{sets-front}
@@ -25,12 +26,8 @@ wrote-length : {o p : List ℕ} {a b : ℕ} {x : List ℕ} {m : ℕ} → Wrote o
 wrote-length {x = x} w y = omega (arith, w .after, length-append x y)
 
 -- nothing is written to an empty part
-empty : (l : List ℕ) → length l ≡ 0 → l ≡ []
-empty [] e = refl
-empty (a ∷ l) e = absurd (omega arith)
-
 wrote-none : (o p : List ℕ) (b : ℕ) (x : List ℕ) (m : ℕ) → Wrote o p 0 b x m → length o ≡ 0 → p ≡ []
-wrote-none o p b x m w e = empty p (ap length (w .bytes) ∙ length-sets o 0 x ∙ e)
+wrote-none o p b x m w e = sym (no-text p (ap length (w .bytes) ∙ length-sets o 0 x ∙ e))
 
 -- of a text at a place of a store, the rest at the next place
 pub record Left (old new : List ℕ) (at next : ℕ) (whole rest : List ℕ) : Type 0 where

@@ -5,7 +5,7 @@ use mathlib.Core.Bool.{Bool, true, false, cond}
 use mathlib.Core.List.{List, [], _∷_, _++_, flatMap}
 use mathlib.Core.Option.{Option, none, some}
 use native.Mathlib.Omega.{arith}
-use borrow.Author.Tests.{eq-eqb, le-ltb}
+use borrow.Author.Tests.{eq-eqb}
 use lib.Dec.{eqb, leb, ltb}
 use lib.ListN.{length, take, drop, replicate, getElem?, length-append, length-replicate}
 use lib.Seq.{take-at, drop-at}
@@ -16,15 +16,15 @@ use Rattle.model.specs.Answers.{Report, done, report, counted, refused, halted,
 use Rattle.model.specs.declared.Kind.{Kind}
 use Rattle.model.specs.declared.Kind.the-variants.{Neither, Public, Sensitive}
 use Rattle.model.specs.Places.{State, kind}
-use Rattle.model.specs.Step.{Row, row, next, after}
+use Rattle.model.specs.Step.{Row, next, after}
 use Rattle.model.specs.Stored.{lineCount, lines, programCheck}
 use Rattle.model.specs.Run.{Ran, run, answer, runLeaves, runOutcome}
-use Rattle.model.specs.Images.{byKind, imageAt, image, every, bitRight, carried, toImageOutcome}
+use Rattle.model.specs.Images.{byKind, image, every, bitRight, carried, toImageOutcome}
 use Rattle.model.specs.Expansion.{expand}
 use Rattle.model.specs.Programs.{traceBudget, orRefusal, printed, numbersText, endingText, traceText, tracePrints}
-use Rattle.model.proofs.OutcomeLaws.{first-store, second-store}
-use Rattle.model.proofs.PlaceLaws.{mapAt-length}
-use Rattle.model.proofs.Runs.{run-zero, stopped, step-run}
+use Rattle.model.proofs.OutcomeLaws.{first-store, second-store, run-outcome}
+use Rattle.model.proofs.PlaceLaws.{image-length}
+use Rattle.model.proofs.Runs.{run-zero, stopped, step-run, row-length, flat}
 use Rattle.model.proofs.AnswerLaws.{NoCount}
 use Rattle.programs.specs.Printing.{rowsFrom, rowsText, linesText}
 use Rattle.model.specs.Text.{fitted}
@@ -38,20 +38,13 @@ abbrev pub Sixes : List Row → Type 0
 Sixes [] = Unit {0}
 Sixes (r ∷ rs) = (length r ≡ rowWidth) × Sixes rs
 
-abbrev flat : List Row → List ℕ
-flat = flatMap (λ (r : Row). r)
-
-row-six : (l : Line) (k : ℕ) (s : State) → length (row l k s) ≡ rowWidth
-unfolding row
-row-six l k s = refl
-
 pub run-sixes : (p : List Line) (n k : ℕ) (s : State) → Sixes (run p n k s .rows)
 run-sixes p zero k s = rw (run-zero p k s) tt
 run-sixes p (suc n) k s = by (λ k s. run-sixes p n k s) (getElem? p k) refl
   where
     by : ((k : ℕ) (s : State) → Sixes (run p n k s .rows)) → (o : Option Line) → getElem? p k ≡ o → Sixes (run p (suc n) k s .rows)
     by ih none e = rw (stopped p k s e (suc n)) tt
-    by ih (some l) e = rw (step-run p k s l e n) (row-six l k s, ih (next l k s) (after l s))
+    by ih (some l) e = rw (step-run p k s l e n) (row-length l k s, ih (next l k s) (after l s))
 
 flat-length : (rs : List Row) → Sixes rs → length (flat rs) ≡ rowWidth * length rs
 unfolding flatMap
@@ -134,10 +127,6 @@ unfolding every bitRight
 zero-bits zero i = refl
 zero-bits (suc n) i = rw (zero-bit (kind i)) (zero-bits n (suc i))
 
-image-length : (s : State) → length (image s) ≡ length s
-unfolding image
-image-length s = mapAt-length imageAt 0 s
-
 carried-over : (right : ℕ → ℕ → Bool) (over : State → State) (from into : State) → length from ≡ stateSize → length into ≡ stateSize → every right 0 from ≡ true
     → carried right over from into ≡ outcome (counted stateSize) (over from ∷ [])
 unfolding carried
@@ -152,11 +141,6 @@ zero-image new r e =
     ap first-store (e ∙ carried-over bitRight image zeros zeros h h (zero-bits stateSize 0))
 
 -- ---- a run that is not refused
-
-run-outcome : (p : List ℕ) (k b n : ℕ) (s t : List ℕ) → programCheck p ≡ counted n → length s ≡ stateSize → rowWidth * b ≤ length t
-    → runOutcome p k b s t ≡ runLeaves (lines p) (run (lines p) b k s) t
-unfolding runOutcome
-run-outcome p k b n s t e h g = rw (e, eq-eqb (length s) stateSize h, le-ltb (length t) (rowWidth * b) g)
 
 run-leaves : (p : List Line) (x : Ran) (t : List ℕ) → runLeaves p x t ≡ outcome (answer p x) (x .state ∷ atFront (flat (x .rows)) t ∷ [])
 unfolding runLeaves

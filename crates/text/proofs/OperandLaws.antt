@@ -16,7 +16,8 @@ use Rattle.model.specs.Text.{upTo, past, countOf, decimal, indirect, spellOpera
 use Rattle.model.proofs.TestLaws.{below}
 use Rattle.model.proofs.DecimalLaws.{decimal-digits, decimal-some}
 use Rattle.model.proofs.CutLaws.{digits-clean, upTo-clean, past-clean, rejoin, past-none}
-use Rattle.model.proofs.SpellingLaws.{spelled-is}
+use Rattle.model.proofs.SpellingLaws.{based, spelled-is}
+use Rattle.model.proofs.RoundTrip.{no-text}
 use Rattle.text.specs.Fields.{found, readNumber, shift, joined, readIndirect, readKind}
 use Rattle.text.specs.declared.Field.{Field}
 use Rattle.text.specs.declared.Field.the-variants.{Is, Wrong}
@@ -34,10 +35,6 @@ filled : (c : ℕ) (x : List ℕ) → eqb (length (c ∷ x)) 0 ≡ false
 filled c x = ne-eqb (length (c ∷ x)) 0 (λ e. omega arith)
 
 -- ---- spelled, then read
-
--- `rN+k`
-abbrev based : ℕ → ℕ → List ℕ
-based b k = 114 ∷ (decimal b ++ (43 ∷ decimal k))
 
 based-read : (w b k : ℕ) → b < 32 → k < w → w ≤ 256 → readIndirect w (based b k) ≡ Is (w * b + k)
 unfolding readIndirect joined
@@ -287,10 +284,6 @@ target-at s k (by-shift j p e) =
       omega (arith, number-below (maxLines + 1) s j (omega arith) p),
       rw (ne-eqb k 0 (λ z. omega arith), m) (decimal-number (maxLines + 1) s j (omega arith) (omega arith) p),
     )
-
-no-text : (s : List ℕ) → length s ≡ 0 → [] ≡ s
-no-text [] h = refl
-no-text (b ∷ s) h = absurd (omega arith)
 
 target-shown : (s : List ℕ) (k : ℕ) → readTarget s ≡ Is k → (k < targets) × (cond (eqb k 0) [] (decimal (k - 1)) ≡ s)
 unfolding readTarget

@@ -93,11 +93,11 @@ module _ (p out : List ℕ) where
   -- a right program: its text is written where there is room
   module _ (n : ℕ) (e : programCheck p ≡ counted n) where
     pub write-room : length out < length (textOf p) → outcome (refused 17 0) (out ∷ []) ≡ writeOutcome p out
-    unfolding writeOutcome
+    unfolding writeOutcome fitted
     write-room h = rw (e, lt-ltb (length out) (length (textOf p)) h)
 
     pub write-done : length (textOf p) ≤ length out → outcome (counted (length (textOf p))) (atFront (textOf p) out ∷ []) ≡ writeOutcome p out
-    unfolding writeOutcome
+    unfolding writeOutcome fitted
     write-done h = rw (e, le-ltb (length out) (length (textOf p)) h)
 
     pub write-few : lineCount p ≤ maxLines
