@@ -3,7 +3,7 @@
 use mathlib.Core.Path.{_≡_, refl, sym, ap, _∙_}
 use mathlib.Core.Bool.{Bool, true, false, cond}
 use mathlib.Core.List.{List, [], _∷_, _++_, append-assoc, flatMap}
-use Prim.Native.Nat.{ℕ, zero, suc, _+_, _*_, _<_, _≤_}
+use Prim.Native.Nat.{ℕ, zero, suc, _+_, _*_, _≤_}
 use native.Mathlib.Nat.{zero-add}
 use native.Mathlib.Omega.{arith}
 use lib.Dec.{ltb}
@@ -13,10 +13,10 @@ use borrow.Author.Tests.{ltb-true, ltb-false}
 use Rattle.model.specs.Limits.{rowWidth}
 use Rattle.model.specs.Answers.{halted, spent, Outcome, outcome}
 use Rattle.model.specs.Stored.{lineAt, lineCount, lines}
-use Rattle.model.specs.Step.{Row, next, after, row}
+use Rattle.model.specs.Step.{Row, row}
 use Rattle.model.specs.Run.{Ran, push, run, answer, runLeaves}
 use Rattle.model.proofs.StoredLaws.{length-lines, get-line, no-line}
-use Rattle.model.proofs.Runs.{row-length, flat}
+use Rattle.model.proofs.Runs.{row-length, flat, step-run, stopped}
 use Rattle.machine.specs.Loop.{Machine, machine, putRow, stepBy, stepOf, haltedAt, spentAt, runFrom}
 
 -- ---- a row in the store
@@ -85,16 +85,6 @@ room p b m h =
           (row-length (lineAt p (m .run .counter)) (m .run .counter) (m .state)) (omega arith),
     )
 
--- the model's run where a line stands at the counter, and where none does
-run-goes : (p : List ℕ) (b k : ℕ) (s : List ℕ) → k < lineCount p
-    → run (lines p) (suc b) k s ≡ push (row (lineAt p k) k s) (run (lines p) b (next (lineAt p k) k s) (after (lineAt p k) s))
-unfolding run
-run-goes p b k s h = rw (get-line p k h, run)
-
-run-ends : (p : List ℕ) (b k : ℕ) (s : List ℕ) → lineCount p ≤ k → run (lines p) (suc b) k s ≡ record { at = k; state = s; rows = [] }
-unfolding run
-run-ends p b k s h = rw (no-line p k h, run)
-
 run-left : (p : List ℕ) (b : ℕ) (m : Machine) → rowWidth * (m .run .steps + b) ≤ length (m .trace)
     → runFrom p (lineCount p) b m ≡ left m (lineCount p) (run (lines p) b (m .run .counter) (m .state))
 unfolding runFrom run stepBy
@@ -106,9 +96,9 @@ run-left p (suc b) m h = go (ltb (m .run .counter) (lineCount p)) refl (run-left
         → cond t (runFrom p (lineCount p) b (stepOf p m)) (haltedAt m) ≡ left m (lineCount p) (run (lines p) (suc b) (m .run .counter) (m .state))
     go true e i =
         i ∙ one-left p (lineCount p) m (run (lines p) b (stepOf p m .run .counter) (stepOf p m .state)) (omega arith)
-        ∙ ap (λ (x : Ran). left m (lineCount p) x) (sym (run-goes p b (m .run .counter) (m .state) (ltb-true _ _ e)))
+        ∙ ap (λ (x : Ran). left m (lineCount p) x) (sym (step-run (lines p) (m .run .counter) (m .state) _ (get-line p (m .run .counter) (ltb-true _ _ e)) b))
     go false e i =
-        sym (ap (λ (x : Ran). left m (lineCount p) x) (run-ends p b (m .run .counter) (m .state) (ltb-false _ _ e))
+        sym (ap (λ (x : Ran). left m (lineCount p) x) (stopped (lines p) (m .run .counter) (m .state) (no-line p (m .run .counter) (ltb-false _ _ e)) (suc b))
         ∙ none-left (lineCount p) m ∙ ap (λ (t : Bool). cond t (spentAt m) (haltedAt m)) e)
 
 -- a run from no step done

@@ -192,22 +192,19 @@ plain n op d a b t h e =
       second = public-operand (fills op .second) b (f .second) (r .2) (g .2) (i .1);
     }
 
--- an argument of a marked line
-abbrev pub MaskedArgument : Operand → Type 0
-MaskedArgument o = SensitiveArgument o
-
-pub record Masked (op : Opcode) (d a b : Operand) : Type 0 where
+-- the operands of a marked line
+pub record MarkedOperands (op : Opcode) (d a b : Operand) : Type 0 where
   pub able : T (hasMacro op)
   pub destination : T (fills op .destination) → SensitivePlace d
-  pub first : T (fills op .first) → MaskedArgument a
-  pub second : T (fills op .second) → MaskedArgument b
+  pub first : T (fills op .first) → SensitiveArgument a
+  pub second : T (fills op .second) → SensitiveArgument b
 
 clean : (must : Bool) (o : Operand) → T (operandRight must o) → T (not (isReserved o)) → T (not (hasSensitiveBase o)) → T must → Clean o
 clean must o f r s x = record { range = subst (λ (y : Bool). T (operandRight y o)) (is-true must x) f; named = r; based = s }
 
-pub masked : (n : ℕ) (op : Opcode) (d a b : Operand) (t : Target) → T (correct (mk Marked op d a b t)) → markFault n (mk Marked op d a b t) ≡ 0 → Masked op d a b
+pub marked-operands : (n : ℕ) (op : Opcode) (d a b : Operand) (t : Target) → T (correct (mk Marked op d a b t)) → markFault n (mk Marked op d a b t) ≡ 0 → MarkedOperands op d a b
 unfolding holds10 holds11 holds12 holds13 holds14 holds15
-masked n op d a b t h e =
+marked-operands n op d a b t h e =
     let c = clear n (mk Marked op d a b t) e in
     let f = correct-fields (mk Marked op d a b t) h in
     let r = three (isReserved d) (isReserved a) (isReserved b) (c .c10) in

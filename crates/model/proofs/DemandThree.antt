@@ -29,7 +29,7 @@ use Rattle.model.proofs.Runs.{stopped, step-run, run-zero, Seen, cut, s
 use Rattle.model.proofs.Parts.{start-end}
 use Rattle.model.proofs.PlaceLaws.{same-sym, same-sensitive}
 use Rattle.model.proofs.Operands.{sensitive-of}
-use Rattle.model.proofs.Acceptance.{mk, AllRight, accepted-right, line-at, plain, masked}
+use Rattle.model.proofs.Acceptance.{mk, AllRight, accepted-right, line-at, plain, marked-operands}
 use Rattle.model.proofs.Pieces.{held}
 use Rattle.model.proofs.ImageLaws.{zeros, rails}
 use Rattle.model.proofs.MarkedLines.{Weights, weights, Related, shown-same, macro-size, next-marked, marked-destination}
@@ -74,7 +74,7 @@ alike-by n Unmarked op d a b g c s t ls lt h =
       keeps = after-same s t ls lt h d a b P op g;
     }
 alike-by n Marked op d a b g c s t ls lt h =
-    let M = masked n op d a b g (c .0) (c .1) in
+    let M = marked-operands n op d a b g (c .0) (c .1) in
     let o = marked-destination op d a b M in
     let l = mk Marked op d a b g in
     record {
@@ -128,7 +128,7 @@ size-by : (n : ℕ) (m : Mark) (op : Opcode) (d a b : Operand) (g : Target) → 
     → (1 ≤ size (mk m op d a b g)) × (size (mk m op d a b g) ≤ longest)
 unfolding size partOf
 size-by n Unmarked op d a b g c = omega arith
-size-by n Marked op d a b g c = macro-size op d _ _ (masked n op d a b g (c .0) (c .1) .able)
+size-by n Marked op d a b g c = macro-size op d _ _ (marked-operands n op d a b g (c .0) (c .1) .able)
 
 size-of : (p : List Line) (n : ℕ) → AllRight n p → (k : ℕ) (l : Line) → getElem? p k ≡ some l → (1 ≤ size l) × (size l ≤ longest)
 size-of p n A k l e = size-by n (l .mark) (l .opcode) (l .destination) (l .first) (l .second) (l .target) (line-at n p A k l e)

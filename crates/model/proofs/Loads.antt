@@ -16,8 +16,7 @@ use Rattle.model.specs.Images.{BitState, SamePublic}
 use Rattle.model.specs.Expansion.{coded, load}
 use Rattle.model.proofs.Runs.{ran}
 use Rattle.model.proofs.Straight.{exec, Straight}
-use Rattle.model.proofs.Operands.{SensitivePlace, steady-argument, address-same, value-at}
-use Rattle.model.proofs.Acceptance.{MaskedArgument}
+use Rattle.model.proofs.Operands.{SensitivePlace, SensitiveArgument, steady-argument, address-same, value-at}
 use Rattle.model.proofs.Finite.{code-weight, code-loaded}
 use Rattle.model.proofs.Pieces.{held, six, Scratch, got, kept, Source, load-exec, distance-zero}
 use Rattle.model.proofs.ImageLaws.{zeros, rails, found}
@@ -58,7 +57,7 @@ module _ (r : List ℕ) (bits : BitState (zeros r)) where
         stands = F .destination .stands;
       }))
 
-  pub loaded : (a : Operand) → MaskedArgument a → Loaded r a
+  pub loaded : (a : Operand) → SensitiveArgument a → Loaded r a
   unfolding coded value address
   loaded Empty h = absurd h
   loaded (Literal n) h = loaded-from (Literal n) (omega arith) (record { reads = λ x y z. refl; stands = λ x y z. refl })
@@ -69,7 +68,7 @@ module _ (r : List ℕ) (bits : BitState (zeros r)) where
   loaded (TableCell b k) h = absurd h
 
 -- it shows the same in states that agree in the public places
-pub load-same : (s t : State) → SamePublic s t → (a : Operand) → MaskedArgument a → (k x : ℕ) → loadShown a k x s ≡ loadShown a k x t
+pub load-same : (s t : State) → SamePublic s t → (a : Operand) → SensitiveArgument a → (k x : ℕ) → loadShown a k x s ≡ loadShown a k x t
 unfolding loadShown
 load-same s t h a g k x = rw (address-same s t h a (steady-argument a g))
 

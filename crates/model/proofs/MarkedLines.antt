@@ -23,8 +23,8 @@ use Rattle.model.specs.Marks.{hasMacro}
 use Rattle.model.proofs.Runs.{ran}
 use Rattle.model.proofs.Straight.{exec, exec-then, Straight, straight-append}
 use Rattle.model.proofs.PlaceLaws.{mapAt-getD, bits-set}
-use Rattle.model.proofs.Operands.{SensitivePlace, steady-place, address-same}
-use Rattle.model.proofs.Acceptance.{mk, Masked, MaskedArgument}
+use Rattle.model.proofs.Operands.{SensitivePlace, SensitiveArgument, steady-place, address-same}
+use Rattle.model.proofs.Acceptance.{mk, MarkedOperands}
 use Rattle.model.proofs.Finite.{tableAt, tableOp, tableWeight, low, scaled, joinedIndex, flipped, slot, code-weight, low-weight, flipped-weight, flipped-code, not-bit, index-weight, slot-low, slot-holds, table-bit}
 use Rattle.model.proofs.Pieces.{held, plus4, r1, r2, r3, scaleEnd, scaleShown, scale-shown, combineEnd, combineShown, combine-shown, flipEnd, flipShown, flip-shown, fetchEnd, fetchShown, fetch-shown, writeBackShown, write-back-shown}
 use Rattle.model.proofs.ImageLaws.{zeros, rails, tail-length, Found, found, image-page, sensitive-bit, write-sensitive}
@@ -142,7 +142,7 @@ module _ (r : List ℕ) (bits : BitState (zeros r)) where
 
   -- one macro from an image whose scratch registers hold x, y and z
   module _ (d : Operand) (hd : SensitivePlace d) (k x y z : ℕ) (w : Weights) (wx : weight x ≡ w .one) (wy : weight y ≡ w .two) (wz : weight z ≡ w .three) where
-    copy-done : (a : Operand) → MaskedArgument a
+    copy-done : (a : Operand) → SensitiveArgument a
         → Done (exec (copy d (coded a)) k (held x y z (rails r))) (set (zeros r) (place d (zeros r)) (argument Marked a (zeros r)))
         (weights (w .one) (w .two) 1) (copyShown a k (w .three) (zeros r) (weight (address d (zeros r))))
     unfolding copy copyShown
@@ -157,7 +157,7 @@ module _ (r : List ℕ) (bits : BitState (zeros r)) where
         (write-back-shown r3 d c (getD r (D .at) 0) (A .bit) (D .bit) (loadEnd a k) x y (code c) (rails r) (D .at) (address d (zeros r)) refl (D .holds) (D .destination)))
         wx wy (code-weight c (A .bit))
 
-    negate-done : (a b : Operand) → MaskedArgument a
+    negate-done : (a b : Operand) → SensitiveArgument a
         → Done (exec (negate d (coded a)) k (held x y z (rails r))) (set (zeros r) (place d (zeros r)) (alu Marked Not (argument Marked a (zeros r)) (argument Marked b (zeros r))))
         (weights 1 (w .two) (w .three)) (negateShown a k (w .one) (zeros r) (weight (address d (zeros r))))
     unfolding negate negateShown alu
@@ -176,7 +176,7 @@ module _ (r : List ℕ) (bits : BitState (zeros r)) where
         (flipped-code n (A .bit)) (D .holds) (D .destination))))
         (flipped-weight n (A .bit)) wy wz
 
-    lookup-done : (o : ℕ) → o < 3 → (a b : Operand) → MaskedArgument a → MaskedArgument b
+    lookup-done : (o : ℕ) → o < 3 → (a b : Operand) → SensitiveArgument a → SensitiveArgument b
         → Done (exec (lookup (tableAt o) d (coded a) (coded b)) k (held x y z (rails r)))
         (set (zeros r) (place d (zeros r)) (alu Marked (tableOp o) (argument Marked a (zeros r)) (argument Marked b (zeros r))))
         (weights 2 1 1) (lookupShown a b k w (zeros r) (tableWeight o) (weight (address d (zeros r))))
@@ -212,7 +212,7 @@ module _ (r : List ℕ) (bits : BitState (zeros r)) where
         (write-back-shown r3 d c (getD r (D .at) 0) hc (D .bit) (writeBackAt a b k) i (low (code n)) (code c) (rails r) (D .at) (address d (zeros r)) refl (D .holds) (D .destination)))))))
         (index-weight o m n ho (A .bit) (B .bit)) (low-weight n (B .bit)) (code-weight c hc)
 
-  pub macro-done : (op : Opcode) (d a b : Operand) → Masked op d a b → (k x y z : ℕ) (w : Weights) → weight x ≡ w .one → weight y ≡ w .two → weight z ≡ w .three
+  pub macro-done : (op : Opcode) (d a b : Operand) → MarkedOperands op d a b → (k x y z : ℕ) (w : Weights) → weight x ≡ w .one → weight y ≡ w .two → weight z ≡ w .three
       → Done (exec (macro op d (coded a) (coded b)) k (held x y z (rails r)))
       (set (zeros r) (place d (zeros r)) (alu Marked op (argument Marked a (zeros r)) (argument Marked b (zeros r)))) (weighed op w) (shown op d a b k (zeros r) w)
   unfolding macro weighed shown alu hasMacro fills
@@ -233,13 +233,13 @@ module _ (r : List ℕ) (bits : BitState (zeros r)) where
 -- ---- the same is shown in states that agree in the public places
 
 module _ (s t : State) (h : SamePublic s t) where
-  lookup-same : (d a b : Operand) → SensitivePlace d → MaskedArgument a → MaskedArgument b → (k n : ℕ) (w : Weights)
+  lookup-same : (d a b : Operand) → SensitivePlace d → SensitiveArgument a → SensitiveArgument b → (k n : ℕ) (w : Weights)
       → lookupShown a b k w s n (weight (address d s)) ≡ lookupShown a b k w t n (weight (address d t))
   unfolding lookupShown
   lookup-same d a b hd ha hb k n w =
       rw (address-same s t h d (steady-place d hd), load-same s t h a ha k (w .one), load-same s t h b hb (secondAt a k) (w .two))
 
-  pub shown-same : (op : Opcode) (d a b : Operand) → Masked op d a b → (k : ℕ) (w : Weights) → shown op d a b k s w ≡ shown op d a b k t w
+  pub shown-same : (op : Opcode) (d a b : Operand) → MarkedOperands op d a b → (k : ℕ) (w : Weights) → shown op d a b k s w ≡ shown op d a b k t w
   unfolding shown copyShown negateShown fills
   shown-same Nop d a b M k w = refl
   shown-same Jmp d a b M k w = refl
@@ -332,7 +332,7 @@ next-marked Beq d a b t h k s = absurd h
 next-marked Bne d a b t h k s = absurd h
 
 -- and has a destination
-pub marked-destination : (op : Opcode) (d a b : Operand) → Masked op d a b → SensitivePlace d
+pub marked-destination : (op : Opcode) (d a b : Operand) → MarkedOperands op d a b → SensitivePlace d
 unfolding hasMacro fills
 marked-destination Nop d a b M = absurd (M .able)
 marked-destination Jmp d a b M = absurd (M .able)

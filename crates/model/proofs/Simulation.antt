@@ -26,7 +26,7 @@ use Rattle.model.specs.Claims.{span}
 use Rattle.model.proofs.Runs.{ran, stopped, step-run, run-zero, run-add, joinRuns}
 use Rattle.model.proofs.Straight.{exec-at, exec-rows, drop-head, run-straight}
 use Rattle.model.proofs.Parts.{part-at, start-suc}
-use Rattle.model.proofs.Acceptance.{mk, AllRight, line-at, Plain, plain, Masked, masked}
+use Rattle.model.proofs.Acceptance.{mk, AllRight, line-at, Plain, plain, MarkedOperands, marked-operands}
 use Rattle.model.proofs.Pieces.{held}
 use Rattle.model.proofs.ImageLaws.{zeros, rails, same-held}
 use Rattle.model.proofs.MarkedLines.{Weights, Related, weighed, shown, macro-done, macro-straight, next-marked}
@@ -52,7 +52,7 @@ record Lined (p : List Line) (k : ℕ) (l : Line) (s v : State) (w : Weights) : 
   shows : run (expand p) (size l) (start p k) v .rows ≡ lineRows l (start p k) s w
   related : Related (after l s) (run (expand p) (size l) (start p k) v .state) (lineWeights l w)
 
-line-marked : (p : List Line) (k : ℕ) (op : Opcode) (d a b : Operand) (t : Target) → getElem? p k ≡ some (mk Marked op d a b t) → Masked op d a b
+line-marked : (p : List Line) (k : ℕ) (op : Opcode) (d a b : Operand) (t : Target) → getElem? p k ≡ some (mk Marked op d a b t) → MarkedOperands op d a b
     → (r : List ℕ) (bits : BitState (zeros r)) (x y z : ℕ) (w : Weights) → weight x ≡ w .one → weight y ≡ w .two → weight z ≡ w .three
     → Lined p k (mk Marked op d a b t) (zeros r) (held x y z (rails r)) w
 unfolding lineRows lineWeights expand size partOf after result
@@ -110,7 +110,7 @@ line-by : (p : List Line) (n k : ℕ) (m : Mark) (op : Opcode) (d a b : Operand)
     → (r : List ℕ) (bits : BitState (zeros r)) (x y z : ℕ) (w : Weights) → weight x ≡ w .one → weight y ≡ w .two → weight z ≡ w .three
     → Lined p k (mk m op d a b t) (zeros r) (held x y z (rails r)) w
 line-by p n k Unmarked op d a b t e c r bits x y z w wx wy wz = line-plain p k op d a b t e (plain n op d a b t (c .0) (c .1)) r bits x y z w wx wy wz
-line-by p n k Marked op d a b t e c r bits x y z w wx wy wz = line-marked p k op d a b t e (masked n op d a b t (c .0) (c .1)) r bits x y z w wx wy wz
+line-by p n k Marked op d a b t e c r bits x y z w wx wy wz = line-marked p k op d a b t e (marked-operands n op d a b t (c .0) (c .1)) r bits x y z w wx wy wz
 
 line-done : (p : List Line) (n : ℕ) → AllRight n p → (k : ℕ) (l : Line) → getElem? p k ≡ some l → (s v : State) (w : Weights) → Related s v w → Lined p k l s v w
 line-done p n A k l e s v w S =
