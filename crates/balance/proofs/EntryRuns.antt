@@ -24,7 +24,7 @@ use Rattle.model.proofs.StoredLaws.{codes-length, CheckAnswer, accepts, refuses
 use Rattle.model.proofs.ExpansionLaws.{expansion-check, expansion-lines}
 use Rattle.model.proofs.BackLaws.{back-image, image-passes}
 use Rattle.model.proofs.OutcomeLaws.{never-done, run-outcome, expansion-written, image-made, first-store}
-use Rattle.model.proofs.AnswerLaws.{accepted-source}
+use Rattle.model.proofs.CheckAnswers.{accepted-source}
 use Rattle.model.proofs.DemandThree.{equal-traces, correspondence}
 use Rattle.balance.specs.EntryClaims.{Expanded, listing, SameCalls, EqualTraceStores, FollowingCalls, SourceFollowed, Twin, Followable}
 

@@ -16,7 +16,7 @@ use Rattle.model.specs.Marks.{marksOf, markCheck, Accepted}
 use Rattle.model.proofs.StoredLaws.{length-lines, codes-length}
 use Rattle.model.proofs.Acceptance.{accepted-right}
 use Rattle.model.proofs.ExpansionLaws.{expand-length, expansion-most, expansion-correct, joined-same, mark-accepted}
-use Rattle.model.proofs.AnswerLaws.{program-answers, mark-answers, NoCount, count-told, no-count-refuses, handed-on}
+use Rattle.model.proofs.CheckAnswers.{program-answers, mark-answers, NoCount, count-told, no-count-refuses, handed-on}
 use Rattle.expander.specs.Starts.{lookedUp, Starts}
 use Rattle.expander.specs.Writes.{put}
 use Rattle.expander.proofs.StoreWrites.{stored-correct}

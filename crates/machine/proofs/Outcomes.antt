@@ -12,7 +12,7 @@ use Rattle.model.specs.Stored.{programCheck}
 use Rattle.model.specs.Run.{runOutcome}
 use Rattle.model.proofs.StoredLaws.{program-checked}
 use Rattle.model.proofs.OutcomeLaws.{run-outcome}
-use Rattle.model.proofs.AnswerLaws.{program-answers, NoCount, handed-on}
+use Rattle.model.proofs.CheckAnswers.{program-answers, NoCount, handed-on}
 use Rattle.machine.specs.Loop.{machine, runFrom}
 use Rattle.machine.proofs.Traces.{run-leaves}
 

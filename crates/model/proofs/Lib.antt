@@ -23,6 +23,6 @@ pub mod DemandThree
 pub mod BackLaws
 pub mod ExpansionLaws
 pub mod OutcomeLaws
-pub mod AnswerLaws
+pub mod CheckAnswers
 pub mod Edges
 pub mod AtOneProgram

@@ -23,7 +23,7 @@ use Rattle.model.proofs.StoredLaws.{counted-count, never-counted, codes-length}
 use Rattle.model.proofs.RoundTrip.{read-outcome, reads-back}
 use Rattle.model.proofs.ExpansionLaws.{expansion-most, expansion-check, expansion-lines, mark-accepted}
 use Rattle.model.proofs.OutcomeLaws.{first-store}
-use Rattle.model.proofs.AnswerLaws.{CountOrRefusal, counts, refuses, either, then-answers, reading-answers, mark-answers, accepted-source, NoCount, count-told, Refusal, no-count-refuses, refusal-leaves}
+use Rattle.model.proofs.CheckAnswers.{CountOrRefusal, counts, refuses, either, then-answers, reading-answers, mark-answers, accepted-source, NoCount, count-told, Refusal, no-count-refuses, refusal-leaves}
 use Rattle.model.specs.Text.{fitted}
 use Rattle.programs.specs.Loading.{mostNumbers, readInput, expansionOf, loadAnswer, loadOutcome}
 use Rattle.programs.proofs.ReadRoom.{room-enough}

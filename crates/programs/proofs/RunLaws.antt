@@ -25,7 +25,7 @@ use Rattle.model.specs.Programs.{traceBudget, orRefusal, printed, numbersText, 
 use Rattle.model.proofs.OutcomeLaws.{first-store, second-store, run-outcome}
 use Rattle.model.proofs.PlaceLaws.{image-length}
 use Rattle.model.proofs.Runs.{run-zero, stopped, step-run, row-length, flat}
-use Rattle.model.proofs.AnswerLaws.{NoCount}
+use Rattle.model.proofs.CheckAnswers.{NoCount}
 use Rattle.programs.specs.Printing.{rowsFrom, rowsText, linesText}
 use Rattle.model.specs.Text.{fitted}
 use Rattle.programs.specs.Loading.{loadOutcome}

@@ -23,7 +23,7 @@ use Rattle.model.proofs.DecimalLaws.{decimal-5}
 use Rattle.model.proofs.SpellingLaws.{line-34}
 use Rattle.model.proofs.ExpansionLaws.{expansion-most, expansion-correct}
 use Rattle.model.proofs.Runs.{run-zero, stopped, step-run}
-use Rattle.model.proofs.AnswerLaws.{accepted-source}
+use Rattle.model.proofs.CheckAnswers.{accepted-source}
 use Rattle.model.specs.Text.{fitted}
 use Rattle.programs.specs.Loading.{readInput}
 use Rattle.programs.proofs.LeftLaws.{all-fits}

@@ -14,7 +14,7 @@ use Rattle.model.specs.Answers.{report, refused, counted, outcome, atFront}
 use Rattle.model.specs.Stored.{lineAt, lineCount, linesFrom, programCheck}
 use Rattle.model.specs.Text.{spellLine, textOf, writeOutcome, fitted}
 use Rattle.model.proofs.StoredLaws.{program-checked}
-use Rattle.model.proofs.AnswerLaws.{program-answers, NoCount, handed-on}
+use Rattle.model.proofs.CheckAnswers.{program-answers, NoCount, handed-on}
 use Rattle.text.specs.Writing.{Wrote}
 use Rattle.text.proofs.WroteLaws.{wrote-sets}
 

@@ -4,7 +4,7 @@ use mathlib.Core.Path.{_∙_}
 use native.Mathlib.Omega.{arith}
 use borrow.Author.Needs.{needs}
 use Rattle.model.proofs.StoredLaws.{program-checked}
-use Rattle.model.proofs.AnswerLaws.{count-told}
+use Rattle.model.proofs.CheckAnswers.{count-told}
 use Rattle.machine.proofs.Outcomes.{no-program, no-state, no-room, runs}
 use Rattle.machine.proofs.run.Statement.{statement}
 use Rattle.machine.proofs.run.Tie as tie

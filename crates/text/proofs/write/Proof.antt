@@ -9,7 +9,7 @@ use denote.Ref.{now}
 use lib.ListN.{length}
 use Rattle.model.specs.Answers.{counted, outcome}
 use Rattle.model.specs.Text.{textOf}
-use Rattle.model.proofs.AnswerLaws.{count-told}
+use Rattle.model.proofs.CheckAnswers.{count-told}
 use Rattle.text.proofs.StoreLaws.{sets-front}
 use Rattle.text.proofs.PrintLaws.{write-refused, write-room, write-done, write-few}
 use Rattle.text.proofs.write.Statement.{statement}
