@@ -1,11 +1,10 @@
 // Conditions 10 to 16 of a line, and the mark check of a program whose numbers are lines. The tests are made on the stored numbers
 // themselves, by the ranges that decode them; no line is made.
 ghost use mathlib.Core.Path.{_≡_};
-ghost use mathlib.Core.Bool.{false, cond, _||_};
 ghost use Rattle.model.specs.Answers.{report};
 ghost use Rattle.model.specs.Places.{kindOf, isPublic, isSensitive};
 ghost use Rattle.model.specs.Stored.{markOf, operandOf, targetOf, lineOf, lineAt, lines};
-ghost use Rattle.model.specs.Marks.{isReserved, hasSensitiveBase, isNoBit, hasMacro, isAbove, isMarked};
+ghost use Rattle.model.specs.Marks.{isReserved, hasSensitiveBase, isNoBit, hasMacro, isAbove, isMarked, readsSensitive};
 ghost use Rattle.model.specs.Marks.{holds10, holds11, holds12, holds13, holds14, holds15, holds16, markFault, marksOf};
 use coding::CELLS;
 use coding::LITERALS;
@@ -149,7 +148,7 @@ fn is_above(count: u16, t: u16) -> bool
 
 // Whether an unmarked line has a sensitive argument.
 fn reads_sensitive(m: u16, a: u16, b: u16) -> bool
-    ensures { λ r. ⌜ r ≡ cond (isMarked (markOf m)) false (isSensitive (kindOf (operandOf a)) || isSensitive (kindOf (operandOf b))) ⌝ }
+    ensures { λ r. ⌜ r ≡ readsSensitive (markOf m) (operandOf a) (operandOf b) ⌝ }
 {
     if is_marked(m) {
         return false;

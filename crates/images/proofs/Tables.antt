@@ -1,19 +1,19 @@
 -- The three tables of codes, against the rule of their entries: one test for each whole table.
 -- Assumes nothing.
-use mathlib.Core.Path.{_≡_, subst}
+use mathlib.Core.Path.{_≡_, subst, ap, _∙_}
 use mathlib.Core.List.{List, [], _∷_}
-use mathlib.Core.Bool.{Bool}
+use mathlib.Core.Bool.{Bool, true, false, cond}
 use Prim.Native.Nat.{ℕ, _-_, _≤_, _<_}
 use native.Mathlib.Nat.{zero-add}
 use native.Mathlib.Omega.{arith}
 use borrow.Author.Tests.{lt-ltb, le-ltb}
-use lib.Dec.{T, eqb, eqb→eq}
+use lib.Dec.{T, eqb, ltb, eqb→eq}
 use lib.ListN.{length, getD}
 use Rattle.model.specs.Step.{alu}
 use Rattle.model.specs.Code.{code, entry, page}
 use Rattle.model.specs.declared.Opcode.{Opcode}
 use Rattle.model.specs.declared.Opcode.the-variants.{And, Orr, Xor}
-use Rattle.model.specs.Images.{fixed, every}
+use Rattle.model.specs.Images.{fixed, fixedRight, every}
 use Rattle.model.proofs.TestLaws.{below}
 use Rattle.model.proofs.BackLaws.{every-at}
 
@@ -52,3 +52,11 @@ rest-page i g = rw (le-ltb i 16 (omega arith), le-ltb i 32 (omega arith), le-ltb
 pub low-fixed : (i : ℕ) → i < 288 → 0 ≡ fixed i
 unfolding fixed
 low-fixed i h = below i 4 (λ l. rw (lt-ltb i 4 l)) (λ g. let q : i - 288 ≡ 0 = omega arith in rw (le-ltb i 4 g, q) (and-page 0 (omega arith)))
+
+other : (t u v : Bool) → t ≡ false → v ≡ cond t u v
+other t u v e = rw e
+
+-- past r3 what is fixed must stand there
+pub high-fixed : (i x y : ℕ) → 4 ≤ i → y ≡ fixed i → eqb x y ≡ fixedRight i x
+unfolding fixedRight
+high-fixed i x y h e = ap (eqb x) e ∙ other (ltb i 4) (cond (eqb i 0) (eqb x 0) true) (eqb x (fixed i)) (le-ltb i 4 h)

@@ -1,14 +1,14 @@
 // 'Code, tables, macros' of document 01, the tables and the images of bit states, and the way back: conditions 18 and 19, then a store of
 // 544 bytes, place by place.
 ghost use mathlib.Core.Path.{_≡_};
-ghost use mathlib.Core.Bool.{true, cond, _||_};
+ghost use mathlib.Core.Bool.{cond, _||_};
 ghost use mathlib.Core.List.{[], _∷_};
-ghost use lib.Dec.{eqb, ltb};
+ghost use lib.Dec.{eqb};
 ghost use lib.ListN.{length};
 ghost use Rattle.model.specs.Answers.{report, outcome};
 ghost use Rattle.model.specs.Code.{code, page};
 ghost use Rattle.model.specs.Images.{fixed, imageAt, backAt, image as imageOf, back as backOf};
-ghost use Rattle.model.specs.Images.{bitRight, imageRight, every, toImageOutcome, fromImageOutcome};
+ghost use Rattle.model.specs.Images.{bitRight, fixedRight, imageRight, every, toImageOutcome, fromImageOutcome};
 use model::Answer;
 use model::Kind;
 use model::STATE_SIZE;
@@ -93,7 +93,7 @@ fn is_code(x: u8) -> bool
 
 // Whether x may stand on the way back where neither a public nor a sensitive place is; r1 to r3 hold anything.
 fn is_fixed(i: usize, x: u8) -> bool
-    ensures { λ r. ⌜ r ≡ cond (ltb i 4) (cond (eqb i 0) (eqb x 0) true) (eqb x (fixed i)) ⌝ }
+    ensures { λ r. ⌜ r ≡ fixedRight i x ⌝ }
 {
     if i < 4 {
         if i == 0 {

@@ -63,10 +63,15 @@ unfoldable pub bitRight : ℕ → ℕ → Bool
 unfolding kind
 bitRight i x = byKind (kind i) (eqb x 0) true (leb x 1)
 
--- may x stand at place i on the way back: r1 to r3 hold anything
+-- may x stand on the way back where neither a public nor a sensitive place is: r1 to r3 hold anything
+unfoldable pub fixedRight : ℕ → ℕ → Bool
+unfolding fixed
+fixedRight i x = cond (ltb i 4) (cond (eqb i 0) (eqb x 0) true) (eqb x (fixed i))
+
+-- may x stand at place i on the way back
 unfoldable pub imageRight : ℕ → ℕ → Bool
-unfolding kind fixed code
-imageRight i x = byKind (kind i) (cond (ltb i 4) (cond (eqb i 0) (eqb x 0) true) (eqb x (fixed i))) true (eqb x (code 1) || eqb x (code 0))
+unfolding kind fixedRight code
+imageRight i x = byKind (kind i) (fixedRight i x) true (eqb x (code 1) || eqb x (code 0))
 
 -- a test at each place counted from i
 unfoldable pub every : (ℕ → ℕ → Bool) → ℕ → List ℕ → Bool

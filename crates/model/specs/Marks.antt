@@ -89,9 +89,14 @@ unfoldable pub holds11 : Line → Bool
 unfolding kindOf
 holds11 l = cond (isMarked (l .mark)) (isPublic (kindOf (l .destination))) (isSensitive (kindOf (l .destination)))
 
+-- u with a sensitive argument
+unfoldable pub readsSensitive : Mark → Operand → Operand → Bool
+unfolding kindOf
+readsSensitive m a b = cond (isMarked m) false (isSensitive (kindOf a) || isSensitive (kindOf b))
+
 unfoldable pub holds12 : Line → Bool
-unfolding kindOf hasSensitiveBase
-holds12 l = cond (isMarked (l .mark)) false (isSensitive (kindOf (l .first)) || isSensitive (kindOf (l .second)))
+unfolding readsSensitive hasSensitiveBase
+holds12 l = readsSensitive (l .mark) (l .first) (l .second)
     || (hasSensitiveBase (l .destination) || hasSensitiveBase (l .first) || hasSensitiveBase (l .second))
 
 unfoldable pub holds13 : Line → Bool

@@ -1,4 +1,5 @@
 -- `expander::marks::reads_sensitive` meets its contract. The tests that it joins are those of the definition. Assumes nothing.
+use Rattle.model.specs.Marks.{readsSensitive}
 use borrow.Author.Needs.{needs}
 use Rattle.expander.proofs.marks.reads_sensitive.Statement.{statement}
 use Rattle.expander.proofs.marks.reads_sensitive.Tie as tie
@@ -7,6 +8,7 @@ is-marked-requires : tie.Need-is-marked-requires
 is-marked-requires c κs = search needs
 
 returns : tie.Need-returns
+unfolding readsSensitive
 returns c = rw (← c .before .is-marked .ensures, c .if1 .taken)
 
 kind-of-requires : tie.Need-kind-of-requires
@@ -16,6 +18,7 @@ is-sensitive-requires : tie.Need-is-sensitive-requires
 is-sensitive-requires c κs = search needs
 
 returns-2 : tie.Need-returns-2
+unfolding readsSensitive
 returns-2 c = rw (← c .before .before .before .before .is-marked .ensures, c .before .before .before .if1 .left, ← c .before .before .kind-of .ensures, ← c .before .is-sensitive .ensures, c .if2 .taken)
 
 kind-of-requires-2 : tie.Need-kind-of-requires-2
@@ -25,6 +28,7 @@ is-sensitive-requires-2 : tie.Need-is-sensitive-requires-2
 is-sensitive-requires-2 c κs = search needs
 
 returns-3 : tie.Need-returns-3
+unfolding readsSensitive
 returns-3 c = rw (← c .before .before .before .before .before .before .is-marked .ensures, c .before .before .before .before .before .if1 .left, ← c .before .before .before .before .kind-of .ensures, ← c .before .before .before .is-sensitive .ensures, c .before .before .if2 .left, ← c .before .kind-of2 .ensures) (c .is-sensitive2 .ensures)
 
 pub reads-sensitive-spec : {M : Type 1} → statement M
