@@ -9,12 +9,12 @@ use lib.ListN.{length, take, drop, length-append}
 use lib.Seq.{take-all}
 use Rattle.model.specs.declared.Line.{Line}
 use Rattle.model.specs.Stored.{lineCount, lineAt, lines}
-use Rattle.model.specs.Expansion.{part, start, joined}
-use Rattle.model.proofs.Parts.{part-size}
-use Rattle.model.proofs.StoredLaws.{drop-line, length-lines}
+use Rattle.model.specs.Expansion.{part, size, start, joined}
+use Rattle.model.proofs.Parts.{part-size, start-suc}
+use Rattle.model.proofs.StoredLaws.{drop-line, get-line, length-lines}
 use Rattle.model.proofs.ExpansionLaws.{start-within}
-use Rattle.expander.specs.Writes.{put}
-use Rattle.expander.proofs.StoreWrites.{put-none, put-then, put-length}
+use Rattle.expander.specs.Writes.{put, Wrote}
+use Rattle.expander.proofs.StoreWrites.{wrote-none, wrote-then}
 
 joined-next : (f : ℕ → ℕ) (p r : List Line) (l : Line) (i : ℕ) → drop i p ≡ l ∷ r → joined f (take (suc i) p) ≡ joined f (take i p) ++ part f l
 unfolding joined
@@ -31,25 +31,26 @@ joined-length f [] (suc i) = refl
 joined-length f (l ∷ p) zero = refl
 joined-length f (l ∷ p) (suc i) = length-append (part f l) (joined f (take i p)) ∙ ap₂ (λ (a b : ℕ). a + b) (part-size f l) (joined-length f p i)
 
-pub none-joined : (out : List ℕ) (f : ℕ → ℕ) (p : List Line) → out ≡ put out 0 (joined f (take 0 p))
-unfolding joined
-none-joined out f p = sym (put-none out 0)
+-- the parts of the first i lines written, and the next one
+module _ (p out : List ℕ) (f : ℕ → ℕ) where
+  pub no-parts : Wrote out out 0 0 (joined f (take 0 (lines p)))
+  unfolding joined
+  no-parts = wrote-none out 0 (omega arith)
 
-module _ (p out : List ℕ) (f : ℕ → ℕ) (room : 6 * start (lines p) (lineCount p) ≤ length out) where
-  pub most : (i : ℕ) → start (lines p) i ≤ start (lines p) (lineCount p)
-  most i = start-within (lines p) i (lineCount p) (sym (length-lines p))
+  pub next-part : {o o′ : List ℕ} {at k : ℕ} (i : ℕ) → i < lineCount p → Wrote out o 0 at (joined f (take i (lines p))) → Wrote o o′ at k (part f (lineAt p i))
+      → Wrote out o′ 0 k (joined f (take (i + 1) (lines p)))
+  next-part i h w v = rw (add-one i, joined-next f (lines p) (drop (i + 1) (lines p)) (lineAt p i) i (drop-line p i h)) (wrote-then w v)
 
-  -- a part put after the parts before it
-  pub next-part : (o o′ : List ℕ) (i at : ℕ) → i < lineCount p → o ≡ put out 0 (joined f (take i (lines p))) → at ≡ start (lines p) i
-      → o′ ≡ put o at (part f (lineAt p i)) → o′ ≡ put out 0 (joined f (take (i + 1) (lines p)))
-  next-part o o′ i at h e q z =
-      let before : List Line = joined f (take i (lines p)) in
-      let n : at ≡ 0 + length before = omega (arith, joined-length f (lines p) i) in
-      let t : joined f (take (suc i) (lines p)) ≡ before ++ part f (lineAt p i) = joined-next f (lines p) (drop (i + 1) (lines p)) (lineAt p i) i (drop-line p i h) in
-      rw (add-one i, t) (put-then out o o′ 0 at before (part f (lineAt p i)) (omega (arith, most i, room)) n e z)
+  -- there is room for it where there is room for all
+  pub part-room : {o : List ℕ} {at : ℕ} (i : ℕ) → 6 * start (lines p) (lineCount p) ≤ length out → i < lineCount p
+      → Wrote out o 0 at (joined f (take i (lines p))) → 6 * (at + size (lineAt p i)) ≤ length o
+  part-room i room h w =
+      omega (
+        arith,
+        joined-length f (lines p) i,
+        start-suc (lines p) i (lineAt p i) (get-line p i h),
+        start-within (lines p) (suc i) (lineCount p) (sym (length-lines p)),
+      )
 
-  pub parts-long : (o : List ℕ) (i : ℕ) → o ≡ put out 0 (joined f (take i (lines p))) → length o ≡ length out
-  parts-long o i e = ap length e ∙ put-length out 0 (joined f (take i (lines p))) (omega (arith, joined-length f (lines p) i, most i, room))
-
-  pub all-parts : (o : List ℕ) (i : ℕ) → lineCount p ≤ i → o ≡ put out 0 (joined f (take i (lines p))) → o ≡ put out 0 (joined f (lines p))
-  all-parts o i h e = rw (e, take-all i (lines p) (omega (arith, length-lines p)))
+  pub all-parts : {o : List ℕ} {at : ℕ} (i : ℕ) → lineCount p ≤ i → Wrote out o 0 at (joined f (take i (lines p))) → o ≡ put out 0 (joined f (lines p))
+  all-parts i h w = rw (w .holds, take-all i (lines p) (omega (arith, length-lines p)))

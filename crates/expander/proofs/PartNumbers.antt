@@ -3,20 +3,21 @@
 use mathlib.Core.Path.{_≡_, refl, sym, ap}
 use mathlib.Core.Bool.{true}
 use mathlib.Core.List.{[], _∷_}
-use Prim.Native.Nat.{ℕ, _+_, _-_, _%_, _≤_, _<_}
+use Prim.Native.Nat.{ℕ, _+_, _-_, _*_, _%_, _≤_, _<_}
 use native.Mathlib.Nat.{mod-eq-of-lt}
 use native.Mathlib.Omega.{arith}
-use lib.Dec.{lt→ltb}
+use lib.Dec.{ltb, lt→ltb}
 use borrow.Author.Tests.{eq-eqb, ne-eqb}
 use Rattle.model.specs.declared.Mark.{Mark}
 use Rattle.model.specs.declared.Mark.the-variants.{Unmarked, Marked}
 use Rattle.model.specs.declared.Opcode.{Opcode}
-use Rattle.model.specs.declared.Operand.the-variants.{Literal, Register}
+use Rattle.model.specs.declared.Operand.the-variants.{Literal, Register, TableCell}
 use Rattle.model.specs.declared.Target.{Target}
 use Rattle.model.specs.Lines.{operandRight}
 use Rattle.model.specs.Code.{code}
-use Rattle.model.specs.Stored.{literals, registers, markOf, operandOf, markCode, opcodeCode, operandCode, targetCode}
+use Rattle.model.specs.Stored.{literals, registers, tables, markOf, operandOf, markCode, opcodeCode, operandCode, targetCode}
 use Rattle.model.specs.Expansion.{coded}
+use Rattle.model.proofs.TestLaws.{both-and}
 use Rattle.model.proofs.Forms.{literal, by-form, operand-number}
 use Rattle.model.proofs.StoredLaws.{operand-there}
 use Rattle.coding.proofs.Codes.{mark-fits, opcode-fits}
@@ -40,6 +41,10 @@ line-stored m o d a b t y hd ha hb e =
     let ea = operand-stored a ha in
     let eb = operand-stored b hb in
     cc
+
+pub table-number : (n t : ℕ) → n < 32 → t < 256 → operandOf (tables + 256 * n + t) ≡ TableCell n t
+unfolding operandRight
+table-number n t g h = operand-there true (TableCell n t) (both-and (ltb n 32) (ltb t 256) (lt→ltb n 32 g) (lt→ltb t 256 h)) .same
 
 -- ---- a literal's code
 

@@ -12,7 +12,7 @@ use Rattle.model.specs.Stored.{codes}
 use Rattle.model.proofs.TestLaws.{is-true}
 use Rattle.model.specs.Lines.{AllCorrect}
 use Rattle.coding.proofs.Codes.{codes-fit}
-use Rattle.expander.specs.Writes.{encoded, put}
+use Rattle.expander.specs.Writes.{encoded, put, Wrote}
 
 stored-length : (ls : List Line) → length (flatMap encoded ls) ≡ 6 * length ls
 unfolding flatMap
@@ -79,7 +79,20 @@ put-put out k a b h =
     (sym (drop-drop (6 * length b) m (x ++ drop m out)) ∙ ap (drop (6 * length b)) g ∙ drop-drop (6 * length b) m out)
     ∙ regroup (take (6 * k) out) (flatMap encoded a) (flatMap encoded b) _)
 
--- some lines after others, each put by itself
-pub put-then : (out o o′ : List ℕ) (at k : ℕ) (a b : List Line) → 6 * (at + length a) ≤ length out → k ≡ at + length a → o ≡ put out at a → o′ ≡ put o k b
-    → o′ ≡ put out at (a ++ b)
-put-then out o o′ at k a b h q e e′ = rw (e′, e, q) (put-put out at a b h)
+-- ---- lines written, and where they end
+
+pub wrote-none : (out : List ℕ) (at : ℕ) → 6 * at ≤ length out → Wrote out out at at []
+wrote-none out at h = record { ends = omega arith; fits = h; long = refl; holds = sym (put-none out at) }
+
+pub wrote-one : {out o : List ℕ} {at : ℕ} {l : Line} → 6 * (at + 1) ≤ length out → o ≡ put out at (l ∷ []) → Wrote out o at (at + 1) (l ∷ [])
+wrote-one {out} {o} {at} {l} h e = record { ends = omega arith; fits = h; long = ap length e ∙ put-length out at (l ∷ []) h; holds = e }
+
+-- some lines after others
+pub wrote-then : {out o o′ : List ℕ} {k n m : ℕ} {a b : List Line} → Wrote out o k n a → Wrote o o′ n m b → Wrote out o′ k m (a ++ b)
+wrote-then {out} {o} {o′} {k} {n} {m} {a} {b} w v =
+    record {
+      ends = omega (arith, length-append a b);
+      fits = omega arith;
+      long = omega arith;
+      holds = rw (v .holds, w .holds, w .ends) (put-put out k a b (omega arith));
+    }

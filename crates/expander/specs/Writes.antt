@@ -1,7 +1,8 @@
 -- Lines written into a store.
 -- Assumes nothing.
+use mathlib.Core.Path.{_≡_}
 use mathlib.Core.List.{List, [], _++_, map, flatMap}
-use Prim.Native.Nat.{ℕ, _+_, _*_, _%_}
+use Prim.Native.Nat.{ℕ, _+_, _*_, _%_, _≤_}
 use lib.ListN.{length, take, drop}
 use Rattle.model.specs.declared.Mark.{Mark}
 use Rattle.model.specs.declared.Opcode.{Opcode}
@@ -22,3 +23,10 @@ lineWith m o d a b t = record { mark = m; opcode = o; destination = operandOf d;
 unfoldable pub put : List ℕ → ℕ → List Line → List ℕ
 unfolding flatMap
 put out k ls = take (lineWidth * k) out ++ flatMap encoded ls ++ drop (lineWidth * (k + length ls)) out
+
+-- a store after lines were put into it from line k on, up to line n
+pub record Wrote (out o : List ℕ) (k n : ℕ) (ls : List Line) : Type 0 where
+  pub ends : n ≡ k + length ls
+  pub fits : lineWidth * n ≤ length out
+  pub long : length o ≡ length out
+  pub holds : o ≡ put out k ls

@@ -1,19 +1,19 @@
 // The lines that a line becomes, written into a lent store as stored numbers: a line, the pieces of the macros, the macros; and how
-// long a part is.
+// long a part is. Each is written from a line of the store on and hands back the line past its last, so that the next goes on there.
 ghost use mathlib.Core.Path.{_≡_};
 ghost use mathlib.Core.List.{[], _∷_};
-ghost use Prim.Native.Nat.{ℕ, _+_, _*_, _%_, _≤_, _<_};
+ghost use Prim.Native.Nat.{_+_, _*_, _%_, _≤_, _<_};
 ghost use lib.ListN.{length};
 ghost use Rattle.model.specs.declared.Operand.{Operand};
 ghost use Rattle.model.specs.declared.Target.{Target};
 ghost use Rattle.model.specs.Stored.{targetCode, operandOf, lineAt};
-ghost use Rattle.model.specs.Expansion.{coded, markedLine, move, load, scale, combine, writeBack, lookup, negate, copy, macro, size};
-ghost use Rattle.expander.specs.Writes.{lineWith, put};
+ghost use Rattle.model.specs.Expansion.{coded, markedLine, move, precharged, load, scale, combine, fetch, flip, writeBack, lookup, negate, copy, macro, size};
+ghost use Rattle.expander.specs.Writes.{lineWith, Wrote};
 use model::LINE_WIDTH;
 use model::Mark;
 use model::Opcode;
 
-// The numbers of r0 to r2, of #1, of #3, which is both bits of a code,
+// The numbers of r0 to r2, of #1, and of #3, which is both bits of a code.
 const R0: u16 = coding::REGISTERS;
 
 const R1: u16 = coding::REGISTERS + 1;
@@ -24,12 +24,22 @@ const ONE: u16 = coding::LITERALS + 1;
 
 const MASK: u16 = coding::LITERALS + 3;
 
-// and of ^r1+0, ^r1+16 and ^r1+32, the entries of the three tables.
-const AND_TABLE: u16 = coding::TABLES + 256;
+// Where the three tables begin, counted from cell 256.
+const AND_TABLE: u8 = 0;
 
-const ORR_TABLE: u16 = coding::TABLES + 272;
+const ORR_TABLE: u8 = 16;
 
-const XOR_TABLE: u16 = coding::TABLES + 288;
+const XOR_TABLE: u8 = 32;
+
+// ---- operands
+
+// `^rn+t`
+fn table_cell(n: u16, t: u8) -> u16
+    requires { ⌜ n < 32 ⌝ }
+    ensures { λ r. ⌜ operandOf r ≡ Operand.TableCell n t ⌝ }
+{
+    coding::TABLES + 256 * n + (t as u16)
+}
 
 // A literal of a marked line, coded.
 pub fn coded(code: u16) -> u16
@@ -48,9 +58,18 @@ pub fn coded(code: u16) -> u16
 // ---- a line at line `at` of a store
 
 // A line of that mark and opcode, with these numbers for its operands and its target.
-pub fn put_line(out: &mut [u16], at: usize, m: Mark, o: Opcode, d: u16, a: u16, b: u16, t: u16)
+pub fn put_line(
+    out: &mut [u16],
+    at: usize,
+    m: Mark,
+    o: Opcode,
+    d: u16,
+    a: u16,
+    b: u16,
+    t: u16,
+) -> usize
     requires { ⌜ 6 * (at + 1) ≤ length (now out) ⌝ }
-    ensures { λ r. ⌜ ((y : Target) → t ≡ targetCode y % 65536 → now (out .exit) ≡ put (now (out .entry)) at (lineWith m o d a b y ∷ [])) ⌝ }
+    ensures { λ r. ⌜ ((y : Target) → t ≡ targetCode y % 65536 → Wrote (now (out .entry)) (now (out .exit)) at r (lineWith m o d a b y ∷ [])) ⌝ }
 {
     let k = LINE_WIDTH * at;
     out[k] = coding::mark_code(m);
@@ -59,114 +78,138 @@ pub fn put_line(out: &mut [u16], at: usize, m: Mark, o: Opcode, d: u16, a: u16, 
     out[k + 3] = a;
     out[k + 4] = b;
     out[k + 5] = t;
+    at + 1
 }
 
-fn put_marked(out: &mut [u16], at: usize, o: Opcode, d: u16, a: u16, b: u16)
+fn put_marked(out: &mut [u16], at: usize, o: Opcode, d: u16, a: u16, b: u16) -> usize
     requires { ⌜ 6 * (at + 1) ≤ length (now out) ⌝ }
-    ensures { λ r. ⌜ now (out .exit) ≡ put (now (out .entry)) at (markedLine o (operandOf d) (operandOf a) (operandOf b) ∷ []) ⌝ }
+    ensures { λ r. ⌜ Wrote (now (out .entry)) (now (out .exit)) at r (markedLine o (operandOf d) (operandOf a) (operandOf b) ∷ []) ⌝ }
 {
-    put_line(out, at, Mark::Marked, o, d, a, b, 0);
+    put_line(out, at, Mark::Marked, o, d, a, b, 0)
 }
 
-fn put_move(out: &mut [u16], at: usize, d: u16, a: u16)
+fn put_move(out: &mut [u16], at: usize, d: u16, a: u16) -> usize
     requires { ⌜ 6 * (at + 1) ≤ length (now out) ⌝ }
-    ensures { λ r. ⌜ now (out .exit) ≡ put (now (out .entry)) at (move (operandOf d) (operandOf a) ∷ []) ⌝ }
+    ensures { λ r. ⌜ Wrote (now (out .entry)) (now (out .exit)) at r (move (operandOf d) (operandOf a) ∷ []) ⌝ }
 {
-    put_marked(out, at, Opcode::Mov, d, a, 0);
+    put_marked(out, at, Opcode::Mov, d, a, 0)
 }
 
 // ---- the pieces
 
-// Register n precharged and loaded.
-fn put_load(out: &mut [u16], at: usize, n: u16, a: u16)
-    requires { ⌜ (n < 32) × (6 * (at + 2) ≤ length (now out)) ⌝ }
-    ensures { λ r. ⌜ now (out .exit) ≡ put (now (out .entry)) at (load n (operandOf a)) ⌝ }
+// A place precharged, and written from an operand.
+fn put_precharged(out: &mut [u16], at: usize, d: u16, a: u16) -> usize
+    requires { ⌜ 6 * (at + 2) ≤ length (now out) ⌝ }
+    ensures { λ r. ⌜ Wrote (now (out .entry)) (now (out .exit)) at r (precharged (operandOf d) (operandOf a)) ⌝ }
 {
-    put_move(out, at, R0 + n, R0);
-    put_move(out, at + 1, R0 + n, a);
+    let k = put_move(out, at, d, R0);
+    put_move(out, k, d, a)
+}
+
+// Register n precharged and loaded.
+fn put_load(out: &mut [u16], at: usize, n: u16, a: u16) -> usize
+    requires { ⌜ (n < 32) × (6 * (at + length (load n (operandOf a))) ≤ length (now out)) ⌝ }
+    ensures { λ r. ⌜ Wrote (now (out .entry)) (now (out .exit)) at r (load n (operandOf a)) ⌝ }
+{
+    put_precharged(out, at, R0 + n, a)
 }
 
 // The first code masked, and shifted to its place in the index.
-fn put_scale(out: &mut [u16], at: usize)
-    requires { ⌜ 6 * (at + 3) ≤ length (now out) ⌝ }
-    ensures { λ r. ⌜ now (out .exit) ≡ put (now (out .entry)) at scale ⌝ }
+fn put_scale(out: &mut [u16], at: usize) -> usize
+    requires { ⌜ 6 * (at + length scale) ≤ length (now out) ⌝ }
+    ensures { λ r. ⌜ Wrote (now (out .entry)) (now (out .exit)) at r scale ⌝ }
 {
-    put_marked(out, at, Opcode::And, R1, R1, MASK);
-    put_marked(out, at + 1, Opcode::Lsl, R1, R1, ONE);
-    put_marked(out, at + 2, Opcode::Lsl, R1, R1, ONE);
+    let masked = put_marked(out, at, Opcode::And, R1, R1, MASK);
+    let shifted = put_marked(out, masked, Opcode::Lsl, R1, R1, ONE);
+    put_marked(out, shifted, Opcode::Lsl, R1, R1, ONE)
 }
 
 // The second code masked, and joined to the first.
-fn put_combine(out: &mut [u16], at: usize)
-    requires { ⌜ 6 * (at + 2) ≤ length (now out) ⌝ }
-    ensures { λ r. ⌜ now (out .exit) ≡ put (now (out .entry)) at combine ⌝ }
+fn put_combine(out: &mut [u16], at: usize) -> usize
+    requires { ⌜ 6 * (at + length combine) ≤ length (now out) ⌝ }
+    ensures { λ r. ⌜ Wrote (now (out .entry)) (now (out .exit)) at r combine ⌝ }
 {
-    put_marked(out, at, Opcode::And, R2, R2, MASK);
-    put_marked(out, at + 1, Opcode::Orr, R1, R1, R2);
+    let masked = put_marked(out, at, Opcode::And, R2, R2, MASK);
+    put_marked(out, masked, Opcode::Orr, R1, R1, R2)
+}
+
+// r3 precharged, and loaded from the table that begins at t.
+fn put_fetch(out: &mut [u16], at: usize, t: u8) -> usize
+    requires { ⌜ 6 * (at + length (fetch t)) ≤ length (now out) ⌝ }
+    ensures { λ r. ⌜ Wrote (now (out .entry)) (now (out .exit)) at r (fetch t) ⌝ }
+{
+    put_precharged(out, at, R0 + 3, table_cell(1, t))
+}
+
+// Both bits of the code flipped.
+fn put_flip(out: &mut [u16], at: usize) -> usize
+    requires { ⌜ 6 * (at + length flip) ≤ length (now out) ⌝ }
+    ensures { λ r. ⌜ Wrote (now (out .entry)) (now (out .exit)) at r flip ⌝ }
+{
+    put_marked(out, at, Opcode::Xor, R1, R1, MASK)
 }
 
 // The destination precharged, and written from register n.
-fn put_write_back(out: &mut [u16], at: usize, n: u16, d: u16)
-    requires { ⌜ (n < 32) × (6 * (at + 2) ≤ length (now out)) ⌝ }
-    ensures { λ r. ⌜ now (out .exit) ≡ put (now (out .entry)) at (writeBack n (operandOf d)) ⌝ }
+fn put_write_back(out: &mut [u16], at: usize, n: u16, d: u16) -> usize
+    requires { ⌜ (n < 32) × (6 * (at + length (writeBack n (operandOf d))) ≤ length (now out)) ⌝ }
+    ensures { λ r. ⌜ Wrote (now (out .entry)) (now (out .exit)) at r (writeBack n (operandOf d)) ⌝ }
 {
-    put_move(out, at, d, R0);
-    put_move(out, at + 1, d, R0 + n);
+    put_precharged(out, at, d, R0 + n)
 }
 
 // ---- the macros
 
-// and, orr, xor, by the number of the operand that reads their table.
-fn put_lookup(out: &mut [u16], at: usize, t: u16, d: u16, a: u16, b: u16)
-    requires { ⌜ 6 * (at + 13) ≤ length (now out) ⌝ }
-    ensures { λ r. ⌜ ((k : ℕ) → operandOf t ≡ Operand.TableCell 1 k → now (out .exit) ≡ put (now (out .entry)) at (lookup k (operandOf d) (operandOf a) (operandOf b))) ⌝ }
+// and, orr, xor, by where their table begins.
+fn put_lookup(out: &mut [u16], at: usize, t: u8, d: u16, a: u16, b: u16) -> usize
+    requires { ⌜ 6 * (at + length (lookup t (operandOf d) (operandOf a) (operandOf b))) ≤ length (now out) ⌝ }
+    ensures { λ r. ⌜ Wrote (now (out .entry)) (now (out .exit)) at r (lookup t (operandOf d) (operandOf a) (operandOf b)) ⌝ }
 {
-    put_load(out, at, 1, a);
-    put_scale(out, at + 2);
-    put_load(out, at + 5, 2, b);
-    put_combine(out, at + 7);
-    put_load(out, at + 9, 3, t);
-    put_write_back(out, at + 11, 3, d);
+    let loaded = put_load(out, at, 1, a);
+    let scaled = put_scale(out, loaded);
+    let both = put_load(out, scaled, 2, b);
+    let combined = put_combine(out, both);
+    let fetched = put_fetch(out, combined, t);
+    put_write_back(out, fetched, 3, d)
 }
 
 // not
-fn put_negate(out: &mut [u16], at: usize, d: u16, a: u16)
-    requires { ⌜ 6 * (at + 5) ≤ length (now out) ⌝ }
-    ensures { λ r. ⌜ now (out .exit) ≡ put (now (out .entry)) at (negate (operandOf d) (operandOf a)) ⌝ }
+fn put_negate(out: &mut [u16], at: usize, d: u16, a: u16) -> usize
+    requires { ⌜ 6 * (at + length (negate (operandOf d) (operandOf a))) ≤ length (now out) ⌝ }
+    ensures { λ r. ⌜ Wrote (now (out .entry)) (now (out .exit)) at r (negate (operandOf d) (operandOf a)) ⌝ }
 {
-    put_load(out, at, 1, a);
-    put_marked(out, at + 2, Opcode::Xor, R1, R1, MASK);
-    put_write_back(out, at + 3, 1, d);
+    let loaded = put_load(out, at, 1, a);
+    let flipped = put_flip(out, loaded);
+    put_write_back(out, flipped, 1, d)
 }
 
 // mov
-fn put_copy(out: &mut [u16], at: usize, d: u16, a: u16)
-    requires { ⌜ 6 * (at + 4) ≤ length (now out) ⌝ }
-    ensures { λ r. ⌜ now (out .exit) ≡ put (now (out .entry)) at (copy (operandOf d) (operandOf a)) ⌝ }
+fn put_copy(out: &mut [u16], at: usize, d: u16, a: u16) -> usize
+    requires { ⌜ 6 * (at + length (copy (operandOf d) (operandOf a))) ≤ length (now out) ⌝ }
+    ensures { λ r. ⌜ Wrote (now (out .entry)) (now (out .exit)) at r (copy (operandOf d) (operandOf a)) ⌝ }
 {
-    put_load(out, at, 3, a);
-    put_write_back(out, at + 2, 3, d);
+    let loaded = put_load(out, at, 3, a);
+    put_write_back(out, loaded, 3, d)
 }
 
 // The macro of an opcode; those that no marked line of an accepted program has give nothing.
-pub fn put_macro(out: &mut [u16], at: usize, o: Opcode, d: u16, a: u16, b: u16)
-    requires { ⌜ 6 * (at + length (macro o Operand.Empty Operand.Empty Operand.Empty)) ≤ length (now out) ⌝ }
-    ensures { λ r. ⌜ now (out .exit) ≡ put (now (out .entry)) at (macro o (operandOf d) (operandOf a) (operandOf b)) ⌝ }
+pub fn put_macro(out: &mut [u16], at: usize, o: Opcode, d: u16, a: u16, b: u16) -> usize
+    requires { ⌜ 6 * (at + length (macro o (operandOf d) (operandOf a) (operandOf b))) ≤ length (now out) ⌝ }
+    ensures { λ r. ⌜ Wrote (now (out .entry)) (now (out .exit)) at r (macro o (operandOf d) (operandOf a) (operandOf b)) ⌝ }
 {
     match o {
-        Opcode::Nop => {}
-        Opcode::Jmp => {}
+        Opcode::Nop => at,
+        Opcode::Jmp => at,
         Opcode::Not => put_negate(out, at, d, a),
         Opcode::Mov => put_copy(out, at, d, a),
         Opcode::And => put_lookup(out, at, AND_TABLE, d, a, b),
         Opcode::Orr => put_lookup(out, at, ORR_TABLE, d, a, b),
         Opcode::Xor => put_lookup(out, at, XOR_TABLE, d, a, b),
-        Opcode::Lsl => {}
-        Opcode::Lsr => {}
-        Opcode::Add => {}
-        Opcode::Mul => {}
-        Opcode::Beq => {}
-        Opcode::Bne => {}
+        Opcode::Lsl => at,
+        Opcode::Lsr => at,
+        Opcode::Add => at,
+        Opcode::Mul => at,
+        Opcode::Beq => at,
+        Opcode::Bne => at,
     }
 }
 

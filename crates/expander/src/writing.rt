@@ -5,17 +5,17 @@ ghost use lib.ListN.{length};
 ghost use Rattle.model.specs.Stored.{lineCount, lineAt, lines};
 ghost use Rattle.model.specs.Expansion.{part, size, start, joined};
 ghost use Rattle.expander.specs.Starts.{lookedUp};
-ghost use Rattle.expander.specs.Writes.{put};
+ghost use Rattle.expander.specs.Writes.{put, Wrote};
 use super::macros;
 use super::starts;
 use super::starts::STARTS;
 use model::LINE_WIDTH;
 use model::Mark;
 
-// The part of line i from line `at` on: an unmarked line itself, a marked one its macro.
-fn put_part(out: &mut [u16], at: usize, program: &[u16], i: usize, starts: &[u16; STARTS])
+// The part of line i from line `at` on: an unmarked line itself, a marked one its macro. Handed back is the line past it.
+fn put_part(out: &mut [u16], at: usize, program: &[u16], i: usize, starts: &[u16; STARTS]) -> usize
     requires { ⌜ 6 * (at + size (lineAt (now program) i)) ≤ length (now out) ⌝ }
-    ensures { λ r. ⌜ now (out .exit) ≡ put (now (out .entry)) at (part (lookedUp (now (starts .entry))) (lineAt (now (program .entry)) i)) ⌝ }
+    ensures { λ r. ⌜ Wrote (now (out .entry)) (now (out .exit)) at r (part (lookedUp (now (starts .entry))) (lineAt (now (program .entry)) i)) ⌝ }
 {
     let n = coding::numbers_at(program, i);
     let mark = n[0];
@@ -23,10 +23,9 @@ fn put_part(out: &mut [u16], at: usize, program: &[u16], i: usize, starts: &[u16
     if mark == 0 {
         let target = n[5];
         let start = starts::new_target(starts, target);
-        macros::put_line(out, at, Mark::Unmarked, o, n[2], n[3], n[4], start);
-    } else {
-        macros::put_macro(out, at, o, n[2], macros::coded(n[3]), macros::coded(n[4]));
+        return macros::put_line(out, at, Mark::Unmarked, o, n[2], n[3], n[4], start);
     }
+    macros::put_macro(out, at, o, n[2], macros::coded(n[3]), macros::coded(n[4]))
 }
 
 // The parts of all lines, from the front on.
@@ -38,8 +37,7 @@ pub fn put_parts(program: &[u16], starts: &[u16; STARTS], out: &mut [u16])
     let mut i = 0;
     let mut at = 0;
     while i < count {
-        put_part(out, at, program, i, starts);
-        at += macros::size_at(program, i) as usize;
+        at = put_part(out, at, program, i, starts);
         i += 1;
     }
 }

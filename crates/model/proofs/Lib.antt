@@ -15,6 +15,7 @@ pub mod Acceptance
 pub mod Finite
 pub mod Pieces
 pub mod ImageLaws
+pub mod Lengths
 pub mod Loads
 pub mod MarkedLines
 pub mod UnmarkedLines

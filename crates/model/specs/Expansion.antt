@@ -39,9 +39,13 @@ move d a = markedLine Mov d a Empty
 
 -- ---- the pieces of the macros
 
--- register n precharged, which clears it, and loaded
+-- a place precharged, which clears it, and written from an operand
+abbrev pub precharged : Operand → Operand → List Line
+precharged d a = move d (Register 0) ∷ move d a ∷ []
+
+-- register n precharged and loaded
 unfoldable pub load : ℕ → Operand → List Line
-load n a = move (Register n) (Register 0) ∷ move (Register n) a ∷ []
+load n a = precharged (Register n) a
 
 -- the first code masked, and shifted to its place in the index
 unfoldable pub scale : List Line
@@ -60,7 +64,7 @@ combine =
 
 -- r3 precharged, and loaded from the table that begins at t
 unfoldable pub fetch : ℕ → List Line
-fetch t = move (Register 3) (Register 0) ∷ move (Register 3) (TableCell 1 t) ∷ []
+fetch t = precharged (Register 3) (TableCell 1 t)
 
 -- both bits of the code flipped
 unfoldable pub flip : List Line
@@ -68,7 +72,7 @@ flip = markedLine Xor (Register 1) (Register 1) (Literal mask) ∷ []
 
 -- the destination precharged, and written from register n
 unfoldable pub writeBack : ℕ → Operand → List Line
-writeBack n d = move d (Register 0) ∷ move d (Register n) ∷ []
+writeBack n d = precharged d (Register n)
 
 -- ---- the macros
 

@@ -1,27 +1,27 @@
 -- `expander::macros::put_copy` meets its contract. Its pieces, one after the other. Assumes nothing.
-use Rattle.expander.proofs.PieceWrites.{copy-put}
+use native.Mathlib.Omega.{arith}
+use Rattle.model.specs.Expansion.{copy}
+use Rattle.model.proofs.Lengths.{copy-pieces}
+use Rattle.expander.proofs.StoreWrites.{wrote-then}
 use borrow.Author.Needs.{needs}
 use Rattle.expander.proofs.macros.put_copy.Statement.{statement}
 use Rattle.expander.proofs.macros.put_copy.Tie as tie
 
 put-load-requires : tie.Need-put-load-requires
-put-load-requires c κs = search needs
-
-add-put-write-back : tie.Need-add-put-write-back
-add-put-write-back c = search needs
+put-load-requires c κs = (omega arith, omega (arith, simp copy-pieces at (c .before .before .pre)))
 
 put-write-back-requires : tie.Need-put-write-back-requires
-put-write-back-requires c κs = search needs
+put-write-back-requires c κs = (omega arith, omega (arith, simp copy-pieces at (c .before .before .before .before .before .before .pre)))
 
 same-length : tie.Need-same-length
 same-length c = search needs
 
 returns : tie.Need-returns
+unfolding copy
 returns c =
-    let s = c .before .before .before .before .before .before .before .before .before in
-    copy-put (s .args .out .now) (s .args .at) _ _ _ _ (s .pre) (c .before .before .before .before .before .before .put-load .ensures) (c .before .before .put-write-back .ensures)
+    let written = c .before .before in
+    let loaded = written .before .before .before .before in
+    wrote-then (loaded .put-load .ensures) (written .put-write-back .ensures)
 
 pub put-copy-spec : {M : Type 1} → statement M
-put-copy-spec =
-    tie.close
-    (tie.spec put-load-requires add-put-write-back put-write-back-requires same-length returns)
+put-copy-spec = tie.close (tie.spec put-load-requires put-write-back-requires same-length returns)

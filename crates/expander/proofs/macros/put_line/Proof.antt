@@ -2,7 +2,7 @@
 use native.Mathlib.Omega.{arith}
 use lib.ListN.{length-set}
 use Rattle.expander.proofs.PartNumbers.{line-stored}
-use Rattle.expander.proofs.StoreWrites.{one-line}
+use Rattle.expander.proofs.StoreWrites.{one-line, wrote-one}
 use borrow.Author.Needs.{needs}
 use Rattle.expander.proofs.macros.put_line.Statement.{statement}
 use Rattle.expander.proofs.macros.put_line.Tie as tie
@@ -67,14 +67,19 @@ mul-out-6 c = search needs
 slice-write-out-6 : tie.Need-slice-write-out-6
 slice-write-out-6 c = simp length-set (omega arith)
 
+add-result : tie.Need-add-result
+add-result c = search needs
+
 same-length : tie.Need-same-length
 same-length c = search needs
 
 returns : tie.Need-returns
-returns c =
+returns c = λ y e.
     let s = c .before .before .before in
-    λ y e.
-    one-line _ (s .args .at) _ _ (s .args .d) (s .args .a) (s .args .b) (s .args .t) _ (rw (c .before .mark-code .ensures, c .opcode-code .ensures) (line-stored (s .args .m) (s .args .o) _ _ _ _ y (search needs) (search needs) (search needs) e)) (s .pre)
+    wrote-one (s .pre)
+    (one-line _ (s .args .at) _ _ (s .args .d) (s .args .a) (s .args .b) (s .args .t) _
+    (rw (c .before .mark-code .ensures, c .opcode-code .ensures)
+    (line-stored (s .args .m) (s .args .o) _ _ _ _ y (search needs) (search needs) (search needs) e)) (s .pre))
 
 pub put-line-spec : {M : Type 1} → statement M
 put-line-spec =
@@ -100,5 +105,6 @@ put-line-spec =
     add-out-5
     mul-out-6
     slice-write-out-6
+    add-result
     same-length
     returns)

@@ -1,40 +1,22 @@
--- `expander::macros::put_load` meets its contract. Its two lines, one after the other. Assumes nothing.
-use Rattle.expander.proofs.PieceWrites.{load-put}
+-- `expander::macros::put_load` meets its contract. The register precharged and written. Assumes nothing.
+use Rattle.model.specs.Expansion.{load}
+use Rattle.expander.proofs.PieceWrites.{load-wrote}
 use borrow.Author.Needs.{needs}
 use Rattle.expander.proofs.macros.put_load.Statement.{statement}
 use Rattle.expander.proofs.macros.put_load.Tie as tie
 
-add-put-move : tie.Need-add-put-move
-add-put-move c = search needs
+add-put-precharged : tie.Need-add-put-precharged
+add-put-precharged c = search needs
 
-put-move-requires : tie.Need-put-move-requires
-put-move-requires c κs = search needs
-
-add-put-move-2 : tie.Need-add-put-move-2
-add-put-move-2 c = search needs
-
-add-put-move-3 : tie.Need-add-put-move-3
-add-put-move-3 c = search needs
-
-put-move-requires-2 : tie.Need-put-move-requires-2
-put-move-requires-2 c κs = search needs
+put-precharged-requires : tie.Need-put-precharged-requires
+unfolding load
+put-precharged-requires c κs = search needs
 
 same-length : tie.Need-same-length
 same-length c = search needs
 
 returns : tie.Need-returns
-returns c =
-    let s = c .before .before .before .before .before .before .before .before .before in
-    load-put (s .args .out .now) (s .args .at) _ _ (s .args .n) _ (s .pre .0) (s .pre .1) (c .before .before .before .before .before .before .put-move .ensures) (c .before .before .put-move2 .ensures)
+returns c = load-wrote _ _ (c .before .before .before .before .before .pre .0) (c .before .before .put-precharged .ensures)
 
 pub put-load-spec : {M : Type 1} → statement M
-put-load-spec =
-    tie.close
-    (tie.spec
-    add-put-move
-    put-move-requires
-    add-put-move-2
-    add-put-move-3
-    put-move-requires-2
-    same-length
-    returns)
+put-load-spec = tie.close (tie.spec add-put-precharged put-precharged-requires same-length returns)

@@ -1,10 +1,9 @@
 -- `expander::macros::put_macro` meets its contract. An arm for each opcode. Assumes nothing.
 use mathlib.Core.Path.{refl}
 use Rattle.model.specs.declared.Opcode.the-variants.{Nop, Jmp, Not, Mov, And, Orr, Xor, Lsl, Lsr, Add, Mul, Beq, Bne}
-use Rattle.model.specs.Code.{andTable, orrTable, xorTable}
 use Rattle.model.specs.Stored.{operandOf}
-use Rattle.model.specs.Expansion.{macro, lookup, negate, copy, load, scale, combine, fetch, flip, writeBack}
-use Rattle.expander.proofs.PieceWrites.{macro-put, macro-room, nothing-put}
+use Rattle.model.specs.Expansion.{macro}
+use Rattle.expander.proofs.PieceWrites.{macro-wrote, macro-room, nothing-wrote}
 use borrow.Author.Needs.{needs}
 use Rattle.expander.proofs.macros.put_macro.Statement.{statement}
 use Rattle.expander.proofs.macros.put_macro.Tie as tie
@@ -19,46 +18,46 @@ enum-told-3 : tie.Need-enum-told-3
 enum-told-3 c = search needs
 
 put-negate-requires : tie.Need-put-negate-requires
-unfolding macro lookup negate copy load scale combine fetch flip writeBack
+unfolding macro
 put-negate-requires c κs =
     let s = c .before .before .before .before in
-    macro-room (s .args .out .now) (s .args .at) _ Not (c .before .enum-told3 .given .1) (s .pre)
+    macro-room _ Not (operandOf (s .args .d)) (operandOf (s .args .a)) (operandOf (s .args .b)) (c .before .enum-told3 .given .1) (s .args .out .now) (s .args .at) (s .pre)
 
 enum-told-4 : tie.Need-enum-told-4
 enum-told-4 c = search needs
 
 put-copy-requires : tie.Need-put-copy-requires
-unfolding macro lookup negate copy load scale combine fetch flip writeBack
+unfolding macro
 put-copy-requires c κs =
     let s = c .before .before .before .before in
-    macro-room (s .args .out .now) (s .args .at) _ Mov (c .before .enum-told4 .given .1) (s .pre)
+    macro-room _ Mov (operandOf (s .args .d)) (operandOf (s .args .a)) (operandOf (s .args .b)) (c .before .enum-told4 .given .1) (s .args .out .now) (s .args .at) (s .pre)
 
 enum-told-5 : tie.Need-enum-told-5
 enum-told-5 c = search needs
 
 put-lookup-requires : tie.Need-put-lookup-requires
-unfolding macro lookup negate copy load scale combine fetch flip writeBack
+unfolding macro
 put-lookup-requires c κs =
     let s = c .before .before .before .before in
-    macro-room (s .args .out .now) (s .args .at) _ And (c .before .enum-told5 .given .1) (s .pre)
+    macro-room _ And (operandOf (s .args .d)) (operandOf (s .args .a)) (operandOf (s .args .b)) (c .before .enum-told5 .given .1) (s .args .out .now) (s .args .at) (s .pre)
 
 enum-told-6 : tie.Need-enum-told-6
 enum-told-6 c = search needs
 
 put-lookup-requires-2 : tie.Need-put-lookup-requires-2
-unfolding macro lookup negate copy load scale combine fetch flip writeBack
+unfolding macro
 put-lookup-requires-2 c κs =
     let s = c .before .before .before .before in
-    macro-room (s .args .out .now) (s .args .at) _ Orr (c .before .enum-told6 .given .1) (s .pre)
+    macro-room _ Orr (operandOf (s .args .d)) (operandOf (s .args .a)) (operandOf (s .args .b)) (c .before .enum-told6 .given .1) (s .args .out .now) (s .args .at) (s .pre)
 
 enum-told-7 : tie.Need-enum-told-7
 enum-told-7 c = search needs
 
 put-lookup-requires-3 : tie.Need-put-lookup-requires-3
-unfolding macro lookup negate copy load scale combine fetch flip writeBack
+unfolding macro
 put-lookup-requires-3 c κs =
     let s = c .before .before .before .before in
-    macro-room (s .args .out .now) (s .args .at) _ Xor (c .before .enum-told7 .given .1) (s .pre)
+    macro-room _ Xor (operandOf (s .args .d)) (operandOf (s .args .a)) (operandOf (s .args .b)) (c .before .enum-told7 .given .1) (s .args .out .now) (s .args .at) (s .pre)
 
 enum-told-8 : tie.Need-enum-told-8
 enum-told-8 c = search needs
@@ -82,13 +81,13 @@ returns : tie.Need-returns
 unfolding macro
 returns c =
     let s = c .before .before .before in
-    nothing-put (s .args .out .now) (s .args .at) _ Nop _ _ _ (c .enum-told .given .1) refl
+    nothing-wrote _ Nop (operandOf (s .args .d)) (operandOf (s .args .a)) (operandOf (s .args .b)) (c .enum-told .given .1) (s .args .out .now) (s .args .at) refl (s .pre)
 
 returns-2 : tie.Need-returns-2
 unfolding macro
 returns-2 c =
     let s = c .before .before .before in
-    nothing-put (s .args .out .now) (s .args .at) _ Jmp _ _ _ (c .enum-told2 .given .1) refl
+    nothing-wrote _ Jmp (operandOf (s .args .d)) (operandOf (s .args .a)) (operandOf (s .args .b)) (c .enum-told2 .given .1) (s .args .out .now) (s .args .at) refl (s .pre)
 
 same-length : tie.Need-same-length
 same-length c = search needs
@@ -96,8 +95,9 @@ same-length c = search needs
 returns-3 : tie.Need-returns-3
 unfolding macro
 returns-3 c =
-    let s = c .before .before .before .before .before .before .before in
-    macro-put (s .args .out .now) (s .args .at) _ _ Not _ _ _ (c .before .before .before .before .enum-told3 .given .1) (c .before .before .put-negate .ensures)
+    let m = c .before .before .before .before in
+    let s = m .before .before .before in
+    macro-wrote _ Not (operandOf (s .args .d)) (operandOf (s .args .a)) (operandOf (s .args .b)) (m .enum-told3 .given .1) (c .before .before .put-negate .ensures)
 
 same-length-2 : tie.Need-same-length-2
 same-length-2 c = search needs
@@ -105,71 +105,75 @@ same-length-2 c = search needs
 returns-4 : tie.Need-returns-4
 unfolding macro
 returns-4 c =
-    let s = c .before .before .before .before .before .before .before in
-    macro-put (s .args .out .now) (s .args .at) _ _ Mov _ _ _ (c .before .before .before .before .enum-told4 .given .1) (c .before .before .put-copy .ensures)
+    let m = c .before .before .before .before in
+    let s = m .before .before .before in
+    macro-wrote _ Mov (operandOf (s .args .d)) (operandOf (s .args .a)) (operandOf (s .args .b)) (m .enum-told4 .given .1) (c .before .before .put-copy .ensures)
 
 same-length-3 : tie.Need-same-length-3
 same-length-3 c = search needs
 
 returns-5 : tie.Need-returns-5
-unfolding macro operandOf
+unfolding macro
 returns-5 c =
-    let s = c .before .before .before .before .before .before .before in
-    macro-put (s .args .out .now) (s .args .at) _ _ And _ _ _ (c .before .before .before .before .enum-told5 .given .1) (c .before .before .put-lookup .ensures andTable refl)
+    let m = c .before .before .before .before in
+    let s = m .before .before .before in
+    macro-wrote _ And (operandOf (s .args .d)) (operandOf (s .args .a)) (operandOf (s .args .b)) (m .enum-told5 .given .1) (c .before .before .put-lookup .ensures)
 
 same-length-4 : tie.Need-same-length-4
 same-length-4 c = search needs
 
 returns-6 : tie.Need-returns-6
-unfolding macro operandOf
+unfolding macro
 returns-6 c =
-    let s = c .before .before .before .before .before .before .before in
-    macro-put (s .args .out .now) (s .args .at) _ _ Orr _ _ _ (c .before .before .before .before .enum-told6 .given .1) (c .before .before .put-lookup2 .ensures orrTable refl)
+    let m = c .before .before .before .before in
+    let s = m .before .before .before in
+    macro-wrote _ Orr (operandOf (s .args .d)) (operandOf (s .args .a)) (operandOf (s .args .b)) (m .enum-told6 .given .1) (c .before .before .put-lookup2 .ensures)
 
 same-length-5 : tie.Need-same-length-5
 same-length-5 c = search needs
 
 returns-7 : tie.Need-returns-7
-unfolding macro operandOf
+unfolding macro
 returns-7 c =
-    let s = c .before .before .before .before .before .before .before in
-    macro-put (s .args .out .now) (s .args .at) _ _ Xor _ _ _ (c .before .before .before .before .enum-told7 .given .1) (c .before .before .put-lookup3 .ensures xorTable refl)
+    let m = c .before .before .before .before in
+    let s = m .before .before .before in
+    macro-wrote _ Xor (operandOf (s .args .d)) (operandOf (s .args .a)) (operandOf (s .args .b)) (m .enum-told7 .given .1) (c .before .before .put-lookup3 .ensures)
 
 returns-8 : tie.Need-returns-8
 unfolding macro
 returns-8 c =
     let s = c .before .before .before in
-    nothing-put (s .args .out .now) (s .args .at) _ Lsl _ _ _ (c .enum-told8 .given .1) refl
+    nothing-wrote _ Lsl (operandOf (s .args .d)) (operandOf (s .args .a)) (operandOf (s .args .b)) (c .enum-told8 .given .1) (s .args .out .now) (s .args .at) refl (s .pre)
 
 returns-9 : tie.Need-returns-9
 unfolding macro
 returns-9 c =
     let s = c .before .before .before in
-    nothing-put (s .args .out .now) (s .args .at) _ Lsr _ _ _ (c .enum-told9 .given .1) refl
+    nothing-wrote _ Lsr (operandOf (s .args .d)) (operandOf (s .args .a)) (operandOf (s .args .b)) (c .enum-told9 .given .1) (s .args .out .now) (s .args .at) refl (s .pre)
 
 returns-10 : tie.Need-returns-10
 unfolding macro
 returns-10 c =
     let s = c .before .before .before in
-    nothing-put (s .args .out .now) (s .args .at) _ Add _ _ _ (c .enum-told10 .given .1) refl
+    nothing-wrote _ Add (operandOf (s .args .d)) (operandOf (s .args .a)) (operandOf (s .args .b)) (c .enum-told10 .given .1) (s .args .out .now) (s .args .at) refl (s .pre)
 
 returns-11 : tie.Need-returns-11
 unfolding macro
 returns-11 c =
     let s = c .before .before .before in
-    nothing-put (s .args .out .now) (s .args .at) _ Mul _ _ _ (c .enum-told11 .given .1) refl
+    nothing-wrote _ Mul (operandOf (s .args .d)) (operandOf (s .args .a)) (operandOf (s .args .b)) (c .enum-told11 .given .1) (s .args .out .now) (s .args .at) refl (s .pre)
 
 returns-12 : tie.Need-returns-12
 unfolding macro
 returns-12 c =
     let s = c .before .before .before in
-    nothing-put (s .args .out .now) (s .args .at) _ Beq _ _ _ (c .enum-told12 .given .1) refl
+    nothing-wrote _ Beq (operandOf (s .args .d)) (operandOf (s .args .a)) (operandOf (s .args .b)) (c .enum-told12 .given .1) (s .args .out .now) (s .args .at) refl (s .pre)
 
 returns-13 : tie.Need-returns-13
 unfolding macro
 returns-13 c =
     let s = c .before .before .before in
-    nothing-put (s .args .out .now) (s .args .at) _ Bne _ _ _ (c .enum-told13 .given .1) refl
+    nothing-wrote _ Bne (operandOf (s .args .d)) (operandOf (s .args .a)) (operandOf (s .args .b)) (c .enum-told13 .given .1) (s .args .out .now) (s .args .at) refl (s .pre)
 
 pub put-macro-spec : {M : Type 1} → statement M
 put-macro-spec =

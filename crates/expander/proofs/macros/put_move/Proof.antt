@@ -1,4 +1,4 @@
--- `expander::macros::put_move` meets its contract. The second field is empty. Assumes nothing.
+-- `expander::macros::put_move` meets its contract. The empty field has the number 0. Assumes nothing.
 use Rattle.model.specs.Stored.{operandOf}
 use borrow.Author.Needs.{needs}
 use Rattle.expander.proofs.macros.put_move.Statement.{statement}

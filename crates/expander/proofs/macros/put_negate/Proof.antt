@@ -1,40 +1,33 @@
 -- `expander::macros::put_negate` meets its contract. Its pieces, one after the other. Assumes nothing.
-use Rattle.expander.proofs.PieceWrites.{negate-put}
+use native.Mathlib.Omega.{arith}
+use Rattle.model.specs.Expansion.{negate}
+use Rattle.model.proofs.Lengths.{negate-pieces}
+use Rattle.expander.proofs.StoreWrites.{wrote-then}
 use borrow.Author.Needs.{needs}
 use Rattle.expander.proofs.macros.put_negate.Statement.{statement}
 use Rattle.expander.proofs.macros.put_negate.Tie as tie
 
 put-load-requires : tie.Need-put-load-requires
-put-load-requires c κs = search needs
+put-load-requires c κs = (omega arith, omega (arith, simp negate-pieces at (c .before .before .pre)))
 
-add-put-marked : tie.Need-add-put-marked
-add-put-marked c = search needs
-
-put-marked-requires : tie.Need-put-marked-requires
-put-marked-requires c κs = search needs
-
-add-put-write-back : tie.Need-add-put-write-back
-add-put-write-back c = search needs
+put-flip-requires : tie.Need-put-flip-requires
+put-flip-requires c κs = omega (arith, simp negate-pieces at (c .before .before .before .before .before .before .pre))
 
 put-write-back-requires : tie.Need-put-write-back-requires
-put-write-back-requires c κs = search needs
+put-write-back-requires c κs = (omega arith, omega (arith, simp negate-pieces at (c .before .before .before .before .before .before .before .before .before .before .pre)))
 
 same-length : tie.Need-same-length
 same-length c = search needs
 
 returns : tie.Need-returns
+unfolding negate
 returns c =
-    let s = c .before .before .before .before .before .before .before .before .before .before .before .before .before in
-    negate-put (s .args .out .now) (s .args .at) _ _ _ _ _ (s .pre) (c .before .before .before .before .before .before .before .before .before .before .put-load .ensures) (c .before .before .before .before .before .before .put-marked .ensures) (c .before .before .put-write-back .ensures)
+    let written = c .before .before in
+    let flipped = written .before .before .before .before in
+    let loaded = flipped .before .before .before .before in
+    wrote-then (loaded .put-load .ensures) (wrote-then (flipped .put-flip .ensures) (written .put-write-back .ensures))
 
 pub put-negate-spec : {M : Type 1} → statement M
 put-negate-spec =
     tie.close
-    (tie.spec
-    put-load-requires
-    add-put-marked
-    put-marked-requires
-    add-put-write-back
-    put-write-back-requires
-    same-length
-    returns)
+    (tie.spec put-load-requires put-flip-requires put-write-back-requires same-length returns)

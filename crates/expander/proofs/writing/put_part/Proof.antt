@@ -1,9 +1,8 @@
 -- `expander::writing::put_part` meets its contract. By the line's mark. Assumes nothing.
 use native.Mathlib.Omega.{arith}
-use mathlib.Core.Path.{refl}
 use Rattle.expander.specs.Starts.{lookedUp}
-use Rattle.expander.proofs.PartSizes.{plain-length, marked-length}
-use Rattle.expander.proofs.PieceWrites.{plain-put, marked-put}
+use Rattle.expander.proofs.PartSizes.{plain-length}
+use Rattle.expander.proofs.PieceWrites.{plain-wrote, marked-room, marked-wrote}
 use borrow.Author.Needs.{needs}
 use Rattle.expander.proofs.writing.put_part.Statement.{statement}
 use Rattle.expander.proofs.writing.put_part.Tie as tie
@@ -37,8 +36,20 @@ array-read-put-line-3 c = search needs
 
 put-line-requires : tie.Need-put-line-requires
 put-line-requires c κs =
-    let s = c .before .before .before .before .before .before .before in
-    omega (arith, plain-length (s .args .program .now) _ (s .args .i) (c .before .before .before .before .numbers-at .ensures) (c .before .before .if1 .taken), s .pre)
+    let n = c .before .before .before .before in
+    let s = n .before .before .before in
+    omega (arith, plain-length (s .args .program .now) _ (s .args .i) (n .numbers-at .ensures) (c .before .before .if1 .taken), s .pre)
+
+same-length : tie.Need-same-length
+same-length c = search needs
+
+returns : tie.Need-returns
+returns c =
+    let t = c .before .before .before .before in
+    let n = t .before .before .before in
+    let s = n .before .before .before in
+    plain-wrote (lookedUp (s .args .starts .now)) (s .args .program .now) _ (s .args .i) _ (n .numbers-at .ensures) (t .before .before .opcode-of .ensures) (t .before .if1 .taken)
+    (c .before .before .put-line .ensures _ (t .new-target .ensures))
 
 array-read-put-macro : tie.Need-array-read-put-macro
 array-read-put-macro c = search needs
@@ -57,24 +68,20 @@ coded-requires-2 c κs = search needs
 
 put-macro-requires : tie.Need-put-macro-requires
 put-macro-requires c κs =
-    let s = c .before .before .before .before .before .before .before .before in
-    omega (arith, marked-length (s .args .program .now) _ (s .args .i) (c .before .before .before .before .before .numbers-at .ensures) _ _ (c .before .before .before .before .opcode-of .ensures) (c .before .before .before .if1 .left) refl, s .pre)
-
-same-length : tie.Need-same-length
-same-length c = search needs
-
-returns : tie.Need-returns
-returns c =
-    let s = c .before .before .before .before .before .before .before .before .before .before in
-    plain-put (s .args .out .now) (s .args .at) (lookedUp (s .args .starts .now)) (s .args .program .now) _ _ (s .args .i) _ (c .before .before .before .before .before .before .before .numbers-at .ensures) (c .before .before .before .before .before .before .opcode-of .ensures) (c .before .before .before .before .before .if1 .taken) (c .before .before .put-line .ensures _ (c .before .before .before .before .new-target .ensures))
+    let n = c .before .before .before .before .before in
+    let s = n .before .before .before in
+    omega (arith, marked-room (lookedUp (s .args .starts .now)) (s .args .program .now) _ (s .args .i) _ (n .numbers-at .ensures) (c .before .before .before .before .opcode-of .ensures) _ _ (c .before .before .before .if1 .left) (c .before .coded .ensures) (c .coded2 .ensures), s .pre)
 
 same-length-2 : tie.Need-same-length-2
 same-length-2 c = search needs
 
 returns-2 : tie.Need-returns-2
 returns-2 c =
-    let s = c .before .before .before .before .before .before .before .before .before .before .before in
-    marked-put (s .args .out .now) (s .args .at) (lookedUp (s .args .starts .now)) (s .args .program .now) _ _ (s .args .i) _ (c .before .before .before .before .before .before .before .before .numbers-at .ensures) (c .before .before .before .before .before .before .before .opcode-of .ensures) _ _ (c .before .before .before .before .before .before .if1 .left) (c .before .before .before .before .coded .ensures) (c .before .before .before .coded2 .ensures) (c .before .before .put-macro .ensures)
+    let m = c .before .before .before in
+    let n = m .before .before .before .before .before in
+    let s = n .before .before .before in
+    marked-wrote (lookedUp (s .args .starts .now)) (s .args .program .now) _ (s .args .i) _ (n .numbers-at .ensures) (m .before .before .before .before .opcode-of .ensures) _ _ (m .before .before .before .if1 .left) (m .before .coded .ensures) (m .coded2 .ensures)
+    (c .before .before .put-macro .ensures)
 
 pub put-part-spec : {M : Type 1} → statement M
 put-part-spec =
@@ -90,13 +97,13 @@ put-part-spec =
     array-read-put-line-2
     array-read-put-line-3
     put-line-requires
+    same-length
+    returns
     array-read-put-macro
     array-read-coded
     coded-requires
     array-read-coded-2
     coded-requires-2
     put-macro-requires
-    same-length
-    returns
     same-length-2
     returns-2)

@@ -1,0 +1,19 @@
+-- `expander::macros::put_flip` meets its contract. Its line. Assumes nothing.
+use Rattle.model.specs.Expansion.{flip}
+use Rattle.expander.proofs.PieceWrites.{flip-wrote}
+use borrow.Author.Needs.{needs}
+use Rattle.expander.proofs.macros.put_flip.Statement.{statement}
+use Rattle.expander.proofs.macros.put_flip.Tie as tie
+
+put-marked-requires : tie.Need-put-marked-requires
+unfolding flip
+put-marked-requires c κs = search needs
+
+same-length : tie.Need-same-length
+same-length c = search needs
+
+returns : tie.Need-returns
+returns c = flip-wrote (c .before .before .put-marked .ensures)
+
+pub put-flip-spec : {M : Type 1} → statement M
+put-flip-spec = tie.close (tie.spec put-marked-requires same-length returns)
