@@ -1,23 +1,22 @@
 -- The pieces written line by line, an opcode's macro by its arm, and a line's part: each is what the definition lists.
 -- Assumes nothing.
-use mathlib.Core.Path.{_≡_, sym, ap, _∙_}
+use mathlib.Core.Path.{_≡_}
 use mathlib.Core.List.{List, [], _∷_}
 use Prim.Native.Nat.{ℕ, _+_, _*_, _≤_, _<_}
 use native.Mathlib.Omega.{arith}
 use lib.ListN.{length, getD}
-use Rattle.model.specs.declared.Mark.the-variants.{Unmarked, Marked}
+use Rattle.model.specs.declared.Mark.the-variants.{Unmarked}
 use Rattle.model.specs.declared.Opcode.{Opcode}
 use Rattle.model.specs.declared.Opcode.the-variants.{And, Orr, Xor, Lsl}
 use Rattle.model.specs.declared.Operand.{Operand}
 use Rattle.model.specs.declared.Operand.the-variants.{TableCell}
 use Rattle.model.specs.Stored.{registers, opcodeOf, operandOf, targetOf, lineAt}
-use Rattle.model.specs.Expansion.{coded, markedLine, move, precharged, load, scale, combine, fetch, flip, writeBack, macro, newTarget, part, size}
-use Rattle.model.proofs.Parts.{part-size}
+use Rattle.model.specs.Expansion.{coded, markedLine, move, precharged, load, scale, combine, fetch, flip, writeBack, macro, newTarget, part}
 use Rattle.coding.specs.Fields.{numbersAt}
 use Rattle.expander.specs.Writes.{lineWith, Wrote}
 use Rattle.expander.proofs.StoreWrites.{wrote-none, wrote-then}
-use Rattle.expander.proofs.PartSizes.{plain-part, marked-part}
-use Rattle.expander.proofs.PartNumbers.{register-number, unmarked, marked}
+use Rattle.expander.proofs.PartSizes.{plain-part, marked-is}
+use Rattle.expander.proofs.PartNumbers.{register-number, unmarked}
 
 -- ---- the pieces
 
@@ -76,16 +75,6 @@ module _ (f : ℕ → ℕ) (p n : List ℕ) (i : ℕ) (x : Opcode) (e : n ≡ nu
       let u = rw (q, e) at w in
       rw (plain-part l f m, m) u
 
-  -- a marked line, whose arguments are coded
-  module _ (a b : Operand) (z : getD n 0 0 ≡ 0 → ⊥) (ea : a ≡ coded (operandOf (getD n 3 0))) (eb : b ≡ coded (operandOf (getD n 4 0))) where
-    marked-is : part f (lineAt p i) ≡ macro x (operandOf (getD n 2 0)) a b
-    marked-is =
-        let l = lineAt p i in
-        let m : l .mark ≡ Marked = marked _ (rw e at z) in
-        rw (ea, eb, q, e) (marked-part l f m)
-
-    pub marked-room : size (lineAt p i) ≡ length (macro x (operandOf (getD n 2 0)) a b)
-    marked-room = sym (part-size f (lineAt p i)) ∙ ap length marked-is
-
-    pub marked-wrote : {out o : List ℕ} {at k : ℕ} → Wrote out o at k (macro x (operandOf (getD n 2 0)) a b) → Wrote out o at k (part f (lineAt p i))
-    marked-wrote w = rw marked-is w
+  pub marked-wrote : {out o : List ℕ} {at k : ℕ} (a b : Operand) → (getD n 0 0 ≡ 0 → ⊥) → a ≡ coded (operandOf (getD n 3 0)) → b ≡ coded (operandOf (getD n 4 0))
+      → Wrote out o at k (macro x (operandOf (getD n 2 0)) a b) → Wrote out o at k (part f (lineAt p i))
+  marked-wrote a b z ea eb w = rw (marked-is p n i e x a b q z ea eb f) w

@@ -2,7 +2,7 @@
 // long a part is. Each is written from a line of the store on and hands back the line past its last, so that the next goes on there.
 ghost use mathlib.Core.Path.{_≡_};
 ghost use mathlib.Core.List.{[], _∷_};
-ghost use Prim.Native.Nat.{_+_, _*_, _%_, _≤_, _<_};
+ghost use Prim.Native.Nat.{ℕ, _+_, _*_, _%_, _≤_, _<_};
 ghost use lib.ListN.{length};
 ghost use Rattle.model.specs.declared.Operand.{Operand};
 ghost use Rattle.model.specs.declared.Target.{Target};
@@ -215,18 +215,32 @@ pub fn put_macro(out: &mut [u16], at: usize, o: Opcode, d: u16, a: u16, b: u16) 
 
 // ---- how long a part is
 
-// The lines of an opcode's macro.
-fn macro_size(o: Opcode) -> u16
-    ensures { λ r. ⌜ r ≡ length (macro o Operand.Empty Operand.Empty Operand.Empty) ⌝ }
+// The lines that load an argument.
+fn load_size(a: u16) -> u16
+    ensures { λ r. ⌜ ((n : ℕ) → r ≡ length (load n (operandOf a))) ⌝ }
+{
+    2
+}
+
+// and, orr, xor, whichever their table and destination are: two loads, 3 lines to scale, and 2 each to combine, fetch and write back.
+fn lookup_size(a: u16, b: u16) -> u16
+    ensures { λ r. ⌜ ((t : ℕ) (d : Operand) → r ≡ length (lookup t d (operandOf a) (operandOf b))) ⌝ }
+{
+    load_size(a) + 3 + load_size(b) + 6
+}
+
+// The lines of an opcode's macro with these arguments, whatever its destination is.
+fn macro_size(o: Opcode, a: u16, b: u16) -> u16
+    ensures { λ r. ⌜ ((d : Operand) → r ≡ length (macro o d (operandOf a) (operandOf b))) ⌝ }
 {
     match o {
         Opcode::Nop => 0,
         Opcode::Jmp => 0,
-        Opcode::Not => 5,
-        Opcode::Mov => 4,
-        Opcode::And => 13,
-        Opcode::Orr => 13,
-        Opcode::Xor => 13,
+        Opcode::Not => load_size(a) + 3,
+        Opcode::Mov => load_size(a) + 2,
+        Opcode::And => lookup_size(a, b),
+        Opcode::Orr => lookup_size(a, b),
+        Opcode::Xor => lookup_size(a, b),
         Opcode::Lsl => 0,
         Opcode::Lsr => 0,
         Opcode::Add => 0,
@@ -244,5 +258,5 @@ pub fn size_at(program: &[u16], i: usize) -> u16
     if n[0] == 0 {
         return 1;
     }
-    macro_size(coding::opcode_of(n[1]))
+    macro_size(coding::opcode_of(n[1]), coded(n[3]), coded(n[4]))
 }

@@ -22,7 +22,7 @@ use Rattle.model.specs.Step.{Row, result, next, after}
 use Rattle.model.specs.Run.{Ran, run, answer}
 use Rattle.model.specs.Lines.{correct}
 use Rattle.model.specs.Images.{Bit, BitState, SamePublic, ButScratch, image}
-use Rattle.model.specs.Expansion.{partOf, size, start, expand}
+use Rattle.model.specs.Expansion.{coded, partOf, size, start, expand}
 use Rattle.model.specs.Marks.{markFault}
 use Rattle.model.specs.Claims.{span, SameRuns, EqualTraces, Correspondence, DemandThree}
 use Rattle.model.proofs.Runs.{stopped, step-run, run-zero, Seen, cut, seen-past}
@@ -32,7 +32,8 @@ use Rattle.model.proofs.Operands.{sensitive-of}
 use Rattle.model.proofs.Acceptance.{mk, AllRight, accepted-right, line-at, plain, marked-operands}
 use Rattle.model.proofs.Pieces.{held}
 use Rattle.model.proofs.ImageLaws.{zeros, rails}
-use Rattle.model.proofs.MarkedLines.{Weights, weights, Related, shown-same, macro-size, next-marked, marked-destination}
+use Rattle.model.proofs.MarkedLines.{Weights, weights, Related, shown-same, next-marked, marked-destination}
+use Rattle.model.proofs.Lengths.{macro-size}
 use Rattle.model.proofs.UnmarkedLines.{row-same, next-same, after-same}
 use Rattle.model.proofs.Simulation.{lineRows, lineWeights, allRows, span-none, span-some, rows-none, rows-some, Simulated, simulate}
 
@@ -128,7 +129,9 @@ size-by : (n : ℕ) (m : Mark) (op : Opcode) (d a b : Operand) (g : Target) → 
     → (1 ≤ size (mk m op d a b g)) × (size (mk m op d a b g) ≤ longest)
 unfolding size partOf
 size-by n Unmarked op d a b g c = omega arith
-size-by n Marked op d a b g c = macro-size op d _ _ (marked-operands n op d a b g (c .0) (c .1) .able)
+size-by n Marked op d a b g c =
+    let m = macro-size op d (coded a) (coded b) in
+    (m .0 (marked-operands n op d a b g (c .0) (c .1) .able), m .1)
 
 size-of : (p : List Line) (n : ℕ) → AllRight n p → (k : ℕ) (l : Line) → getElem? p k ≡ some l → (1 ≤ size l) × (size l ≤ longest)
 size-of p n A k l e = size-by n (l .mark) (l .opcode) (l .destination) (l .first) (l .second) (l .target) (line-at n p A k l e)

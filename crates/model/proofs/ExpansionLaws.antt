@@ -25,6 +25,7 @@ use Rattle.model.specs.Code.{code, andTable, orrTable, xorTable}
 use Rattle.model.specs.Expansion.{coded, move, load, scale, combine, fetch, flip, writeBack, lookup, negate, copy, macro, newTarget, retarget, partOf, part, size, start, joined, expand}
 use Rattle.model.specs.Marks.{isAbove, holds16, markFault, marksOf, markCheck, Accepted}
 use Rattle.model.proofs.TestLaws.{and-both, both-and}
+use Rattle.model.proofs.Lengths.{macro-size}
 use Rattle.model.proofs.Parts.{joined-length}
 use Rattle.model.proofs.Acceptance.{clear, AllRight, marks-right, accepted-right}
 use Rattle.model.proofs.StoredLaws.{CheckAnswer, accepts, refuses, check-answer, program-checked, never-counted, length-lines, whole-lines, whole-check, correct-fields}
@@ -42,46 +43,13 @@ code-more (suc n) h = refl
 
 -- ---- how long a part is
 
--- the operands do not change a macro's length
-pub macro-length : (o : Opcode) (d a b d′ a′ b′ : Operand) → length (macro o d a b) ≡ length (macro o d′ a′ b′)
-unfolding macro lookup negate copy load scale combine fetch flip writeBack
-macro-length Nop d a b d′ a′ b′ = refl
-macro-length Jmp d a b d′ a′ b′ = refl
-macro-length Not d a b d′ a′ b′ = refl
-macro-length Mov d a b d′ a′ b′ = refl
-macro-length And d a b d′ a′ b′ = refl
-macro-length Orr d a b d′ a′ b′ = refl
-macro-length Xor d a b d′ a′ b′ = refl
-macro-length Lsl d a b d′ a′ b′ = refl
-macro-length Lsr d a b d′ a′ b′ = refl
-macro-length Add d a b d′ a′ b′ = refl
-macro-length Mul d a b d′ a′ b′ = refl
-macro-length Beq d a b d′ a′ b′ = refl
-macro-length Bne d a b d′ a′ b′ = refl
-
-macro-most : (o : Opcode) (d a b : Operand) → length (macro o d a b) ≤ longest
-unfolding macro lookup negate copy load scale combine fetch flip writeBack
-macro-most Nop d a b = omega arith
-macro-most Jmp d a b = omega arith
-macro-most Not d a b = omega arith
-macro-most Mov d a b = omega arith
-macro-most And d a b = omega arith
-macro-most Orr d a b = omega arith
-macro-most Xor d a b = omega arith
-macro-most Lsl d a b = omega arith
-macro-most Lsr d a b = omega arith
-macro-most Add d a b = omega arith
-macro-most Mul d a b = omega arith
-macro-most Beq d a b = omega arith
-macro-most Bne d a b = omega arith
-
 pub size-most : (l : Line) → size l ≤ longest
 unfolding size partOf
 size-most l = go (l .mark)
   where
     go : (m : Mark) → length (partOf m (λ t. t) l) ≤ longest
     go Unmarked = omega arith
-    go Marked = macro-most (l .opcode) (l .destination) (coded (l .first)) (coded (l .second))
+    go Marked = macro-size (l .opcode) (l .destination) (coded (l .first)) (coded (l .second)) .1
 
 pub start-bound : (p : List Line) (i : ℕ) → start p i ≤ longest * length p
 unfolding start

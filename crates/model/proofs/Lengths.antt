@@ -2,11 +2,19 @@
 -- Assumes nothing.
 use mathlib.Core.Path.{_≡_}
 use mathlib.Core.List.{List, _++_}
-use Prim.Native.Nat.{ℕ, _+_}
+use Prim.Native.Nat.{ℕ, _+_, _≤_}
+use native.Mathlib.Omega.{arith}
+use lib.Dec.{T}
 use lib.ListN.{length, length-append}
+use Rattle.model.specs.declared.Opcode.{Opcode}
+use Rattle.model.specs.declared.Opcode.the-variants.{Nop, Jmp, Not, Mov, And, Orr, Xor, Lsl, Lsr, Add, Mul, Beq, Bne}
 use Rattle.model.specs.declared.Operand.{Operand}
 use Rattle.model.specs.declared.Line.{Line}
-use Rattle.model.specs.Expansion.{load, scale, combine, fetch, flip, writeBack, lookup, negate, copy}
+use Rattle.model.specs.Limits.{longest}
+use Rattle.model.specs.Code.{andTable, orrTable, xorTable}
+use Rattle.model.specs.Marks.{hasMacro}
+use Rattle.model.specs.Expansion.{load, scale, combine, fetch, flip, writeBack, lookup, negate, copy, macro}
+use Rattle.model.proofs.Loads.{load-size}
 
 pub lookup-pieces : (t : ℕ) (d a b : Operand)
     → length (lookup t d a b) ≡ length (load 1 a) + (length scale + (length (load 2 b) + (length combine + (length (fetch t) + length (writeBack 3 d)))))
@@ -24,3 +32,34 @@ negate-pieces d a = rw (length-append (load 1 a) (flip ++ writeBack 1 d), length
 pub copy-pieces : (d a : Operand) → length (copy d a) ≡ length (load 3 a) + length (writeBack 3 d)
 unfolding copy
 copy-pieces d a = length-append (load 3 a) (writeBack 3 d)
+
+-- ---- the bounds
+
+lookup-most : (t : ℕ) (d a b : Operand) → (1 ≤ length (lookup t d a b)) × (length (lookup t d a b) ≤ longest)
+unfolding scale combine fetch writeBack
+lookup-most t d a b = rw lookup-pieces (omega (arith, load-size 1 a, load-size 2 b))
+
+negate-most : (d a : Operand) → (1 ≤ length (negate d a)) × (length (negate d a) ≤ longest)
+unfolding flip writeBack
+negate-most d a = rw negate-pieces (omega (arith, load-size 1 a))
+
+copy-most : (d a : Operand) → (1 ≤ length (copy d a)) × (length (copy d a) ≤ longest)
+unfolding writeBack
+copy-most d a = rw copy-pieces (omega (arith, load-size 3 a))
+
+-- a macro has at most `longest` lines, and one that a marked line may have has some
+pub macro-size : (op : Opcode) (d a b : Operand) → (T (hasMacro op) → 1 ≤ length (macro op d a b)) × (length (macro op d a b) ≤ longest)
+unfolding macro hasMacro
+macro-size Nop d a b = ((λ h. absurd h), omega arith)
+macro-size Jmp d a b = ((λ h. absurd h), omega arith)
+macro-size Not d a b = ((λ h. negate-most d a .0), negate-most d a .1)
+macro-size Mov d a b = ((λ h. copy-most d a .0), copy-most d a .1)
+macro-size And d a b = ((λ h. lookup-most andTable d a b .0), lookup-most andTable d a b .1)
+macro-size Orr d a b = ((λ h. lookup-most orrTable d a b .0), lookup-most orrTable d a b .1)
+macro-size Xor d a b = ((λ h. lookup-most xorTable d a b .0), lookup-most xorTable d a b .1)
+macro-size Lsl d a b = ((λ h. absurd h), omega arith)
+macro-size Lsr d a b = ((λ h. absurd h), omega arith)
+macro-size Add d a b = ((λ h. absurd h), omega arith)
+macro-size Mul d a b = ((λ h. absurd h), omega arith)
+macro-size Beq d a b = ((λ h. absurd h), omega arith)
+macro-size Bne d a b = ((λ h. absurd h), omega arith)

@@ -15,8 +15,8 @@ pub mod Acceptance
 pub mod Finite
 pub mod Pieces
 pub mod ImageLaws
-pub mod Lengths
 pub mod Loads
+pub mod Lengths
 pub mod MarkedLines
 pub mod UnmarkedLines
 pub mod Simulation

@@ -2,16 +2,15 @@
 -- number, the Hamming weights of the addresses, and those of the scratch registers. The pieces are joined. Assumes nothing.
 use mathlib.Core.Path.{_≡_, refl, ap, ap₂, _∙_}
 use mathlib.Core.List.{List, [], _++_}
-use Prim.Native.Nat.{ℕ, suc, _+_, _%_, _≤_, _<_}
+use Prim.Native.Nat.{ℕ, suc, _+_, _%_, _<_}
 use native.Mathlib.Omega.{arith}
 use lib.Dec.{T, lit<}
-use lib.ListN.{length, getD, set, length-append}
+use lib.ListN.{length, getD, set}
 use Rattle.model.specs.declared.Mark.the-variants.{Marked}
 use Rattle.model.specs.declared.Opcode.{Opcode}
 use Rattle.model.specs.declared.Opcode.the-variants.{Nop, Jmp, Not, Mov, And, Orr, Xor, Lsl, Lsr, Add, Mul, Beq, Bne}
 use Rattle.model.specs.declared.Operand.{Operand}
 use Rattle.model.specs.declared.Target.{Target}
-use Rattle.model.specs.Limits.{longest}
 use Rattle.model.specs.Places.{State, place, address}
 use Rattle.model.specs.Step.{Row, argument, alu, weight, next, taken}
 use Rattle.model.specs.Run.{Ran}
@@ -28,7 +27,7 @@ use Rattle.model.proofs.Acceptance.{mk, MarkedOperands}
 use Rattle.model.proofs.Finite.{tableAt, tableOp, tableWeight, low, scaled, joinedIndex, flipped, slot, code-weight, low-weight, flipped-weight, flipped-code, not-bit, index-weight, slot-low, slot-holds, table-bit}
 use Rattle.model.proofs.Pieces.{held, plus4, r1, r2, r3, scaleEnd, scaleShown, scale-shown, combineEnd, combineShown, combine-shown, flipEnd, flipShown, flip-shown, fetchEnd, fetchShown, fetch-shown, writeBackShown, write-back-shown}
 use Rattle.model.proofs.ImageLaws.{zeros, rails, tail-length, Found, found, image-page, sensitive-bit, write-sensitive}
-use Rattle.model.proofs.Loads.{loadEnd, loadShown, loaded, load-same, load-size, load-straight}
+use Rattle.model.proofs.Loads.{loadEnd, loadShown, loaded, load-same, load-straight}
 
 -- the Hamming weights of r1, r2 and r3
 pub record Weights : Type 0 where
@@ -255,7 +254,7 @@ module _ (s t : State) (h : SamePublic s t) where
   shown-same Beq d a b M k w = refl
   shown-same Bne d a b M k w = refl
 
--- ---- a macro is straight, and has at least one line and at most `longest`
+-- ---- a macro is straight
 
 piece-straight : (t n : ℕ) (d : Operand) → (Straight scale × Straight combine) × (Straight (fetch t) × (Straight flip × Straight (writeBack n d)))
 unfolding scale combine fetch flip writeBack next taken
@@ -291,28 +290,6 @@ macro-straight Add d a b = tt
 macro-straight Mul d a b = tt
 macro-straight Beq d a b = tt
 macro-straight Bne d a b = tt
-
-lookup-size : (t : ℕ) (d a b : Operand) → (1 ≤ length (lookup t d a b)) × (length (lookup t d a b) ≤ longest)
-unfolding lookup scale combine fetch writeBack
-lookup-size t d a b =
-    rw (length-append (load 1 a) (scale ++ (load 2 b ++ (combine ++ (fetch t ++ writeBack 3 d)))), length-append (load 2 b) (combine ++ (fetch t ++ writeBack 3 d)))
-    (omega (arith, load-size 1 a, load-size 2 b))
-
-pub macro-size : (op : Opcode) (d a b : Operand) → T (hasMacro op) → (1 ≤ length (macro op d a b)) × (length (macro op d a b) ≤ longest)
-unfolding macro hasMacro negate copy flip writeBack
-macro-size Nop d a b h = absurd h
-macro-size Jmp d a b h = absurd h
-macro-size Not d a b h = rw (length-append (load 1 a) (flip ++ writeBack 1 d)) (omega (arith, load-size 1 a))
-macro-size Mov d a b h = rw (length-append (load 3 a) (writeBack 3 d)) (omega (arith, load-size 3 a))
-macro-size And d a b h = lookup-size (tableAt 0) d a b
-macro-size Orr d a b h = lookup-size (tableAt 1) d a b
-macro-size Xor d a b h = lookup-size (tableAt 2) d a b
-macro-size Lsl d a b h = absurd h
-macro-size Lsr d a b h = absurd h
-macro-size Add d a b h = absurd h
-macro-size Mul d a b h = absurd h
-macro-size Beq d a b h = absurd h
-macro-size Bne d a b h = absurd h
 
 -- a marked line goes on to the next
 pub next-marked : (op : Opcode) (d a b : Operand) (t : Target) → T (hasMacro op) → (k : ℕ) (s : State) → next (mk Marked op d a b t) k s ≡ suc k

@@ -1,8 +1,12 @@
 -- `expander::macros::macro_size` meets its contract. An arm for each opcode. Assumes nothing.
-use Rattle.expander.proofs.PartSizes.{at-opcode}
-use Rattle.model.specs.declared.Opcode.the-variants.{Nop, Jmp, Not, Mov, And, Orr, Xor, Lsl, Lsr, Add, Mul, Beq, Bne}
-use Rattle.model.specs.Expansion.{macro, lookup, negate, copy, load, scale, combine, fetch, flip, writeBack}
 use mathlib.Core.Path.{refl}
+use native.Mathlib.Omega.{arith}
+use Rattle.model.specs.declared.Opcode.the-variants.{Nop, Jmp, Not, Mov, And, Orr, Xor, Lsl, Lsr, Add, Mul, Beq, Bne}
+use Rattle.model.specs.Stored.{operandOf}
+use Rattle.model.specs.Expansion.{macro, flip, writeBack}
+use Rattle.model.proofs.Loads.{load-size}
+use Rattle.model.proofs.Lengths.{negate-pieces, copy-pieces}
+use Rattle.expander.proofs.PartSizes.{at-opcode}
 use borrow.Author.Needs.{needs}
 use Rattle.expander.proofs.macros.macro_size.Statement.{statement}
 use Rattle.expander.proofs.macros.macro_size.Tie as tie
@@ -16,17 +20,38 @@ enum-told-2 c = search needs
 enum-told-3 : tie.Need-enum-told-3
 enum-told-3 c = search needs
 
+load-size-requires : tie.Need-load-size-requires
+load-size-requires c κs = search needs
+
+add-result : tie.Need-add-result
+add-result c = record { fits = omega (arith, load-size 1 (operandOf (c .before .before .before .args .a)), c .load-size .ensures 1) }
+
 enum-told-4 : tie.Need-enum-told-4
 enum-told-4 c = search needs
+
+load-size-requires-2 : tie.Need-load-size-requires-2
+load-size-requires-2 c κs = search needs
+
+add-result-2 : tie.Need-add-result-2
+add-result-2 c = record { fits = omega (arith, load-size 3 (operandOf (c .before .before .before .args .a)), c .load-size2 .ensures 3) }
 
 enum-told-5 : tie.Need-enum-told-5
 enum-told-5 c = search needs
 
+lookup-size-requires : tie.Need-lookup-size-requires
+lookup-size-requires c κs = search needs
+
 enum-told-6 : tie.Need-enum-told-6
 enum-told-6 c = search needs
 
+lookup-size-requires-2 : tie.Need-lookup-size-requires-2
+lookup-size-requires-2 c κs = search needs
+
 enum-told-7 : tie.Need-enum-told-7
 enum-told-7 c = search needs
+
+lookup-size-requires-3 : tie.Need-lookup-size-requires-3
+lookup-size-requires-3 c κs = search needs
 
 enum-told-8 : tie.Need-enum-told-8
 enum-told-8 c = search needs
@@ -47,56 +72,56 @@ enum-told-13 : tie.Need-enum-told-13
 enum-told-13 c = search needs
 
 returns : tie.Need-returns
-unfolding macro lookup negate copy load scale combine fetch flip writeBack
-returns c = at-opcode _ Nop _ (c .enum-told .given .1) refl
+unfolding macro
+returns c = λ d. at-opcode _ Nop _ d _ _ (c .enum-told .given .1) refl
 
 returns-2 : tie.Need-returns-2
-unfolding macro lookup negate copy load scale combine fetch flip writeBack
-returns-2 c = at-opcode _ Jmp _ (c .enum-told2 .given .1) refl
+unfolding macro
+returns-2 c = λ d. at-opcode _ Jmp _ d _ _ (c .enum-told2 .given .1) refl
 
 returns-3 : tie.Need-returns-3
-unfolding macro lookup negate copy load scale combine fetch flip writeBack
-returns-3 c = at-opcode _ Not _ (c .enum-told3 .given .1) refl
+unfolding macro flip writeBack
+returns-3 c = λ d. at-opcode _ Not _ d _ _ (c .before .enum-told3 .given .1) (rw negate-pieces (omega (arith, c .load-size .ensures 1)))
 
 returns-4 : tie.Need-returns-4
-unfolding macro lookup negate copy load scale combine fetch flip writeBack
-returns-4 c = at-opcode _ Mov _ (c .enum-told4 .given .1) refl
+unfolding macro writeBack
+returns-4 c = λ d. at-opcode _ Mov _ d _ _ (c .before .enum-told4 .given .1) (rw copy-pieces (omega (arith, c .load-size2 .ensures 3)))
 
 returns-5 : tie.Need-returns-5
-unfolding macro lookup negate copy load scale combine fetch flip writeBack
-returns-5 c = at-opcode _ And _ (c .enum-told5 .given .1) refl
+unfolding macro
+returns-5 c = λ d. at-opcode _ And _ d _ _ (c .before .enum-told5 .given .1) (c .lookup-size .ensures _ d)
 
 returns-6 : tie.Need-returns-6
-unfolding macro lookup negate copy load scale combine fetch flip writeBack
-returns-6 c = at-opcode _ Orr _ (c .enum-told6 .given .1) refl
+unfolding macro
+returns-6 c = λ d. at-opcode _ Orr _ d _ _ (c .before .enum-told6 .given .1) (c .lookup-size2 .ensures _ d)
 
 returns-7 : tie.Need-returns-7
-unfolding macro lookup negate copy load scale combine fetch flip writeBack
-returns-7 c = at-opcode _ Xor _ (c .enum-told7 .given .1) refl
+unfolding macro
+returns-7 c = λ d. at-opcode _ Xor _ d _ _ (c .before .enum-told7 .given .1) (c .lookup-size3 .ensures _ d)
 
 returns-8 : tie.Need-returns-8
-unfolding macro lookup negate copy load scale combine fetch flip writeBack
-returns-8 c = at-opcode _ Lsl _ (c .enum-told8 .given .1) refl
+unfolding macro
+returns-8 c = λ d. at-opcode _ Lsl _ d _ _ (c .enum-told8 .given .1) refl
 
 returns-9 : tie.Need-returns-9
-unfolding macro lookup negate copy load scale combine fetch flip writeBack
-returns-9 c = at-opcode _ Lsr _ (c .enum-told9 .given .1) refl
+unfolding macro
+returns-9 c = λ d. at-opcode _ Lsr _ d _ _ (c .enum-told9 .given .1) refl
 
 returns-10 : tie.Need-returns-10
-unfolding macro lookup negate copy load scale combine fetch flip writeBack
-returns-10 c = at-opcode _ Add _ (c .enum-told10 .given .1) refl
+unfolding macro
+returns-10 c = λ d. at-opcode _ Add _ d _ _ (c .enum-told10 .given .1) refl
 
 returns-11 : tie.Need-returns-11
-unfolding macro lookup negate copy load scale combine fetch flip writeBack
-returns-11 c = at-opcode _ Mul _ (c .enum-told11 .given .1) refl
+unfolding macro
+returns-11 c = λ d. at-opcode _ Mul _ d _ _ (c .enum-told11 .given .1) refl
 
 returns-12 : tie.Need-returns-12
-unfolding macro lookup negate copy load scale combine fetch flip writeBack
-returns-12 c = at-opcode _ Beq _ (c .enum-told12 .given .1) refl
+unfolding macro
+returns-12 c = λ d. at-opcode _ Beq _ d _ _ (c .enum-told12 .given .1) refl
 
 returns-13 : tie.Need-returns-13
-unfolding macro lookup negate copy load scale combine fetch flip writeBack
-returns-13 c = at-opcode _ Bne _ (c .enum-told13 .given .1) refl
+unfolding macro
+returns-13 c = λ d. at-opcode _ Bne _ d _ _ (c .enum-told13 .given .1) refl
 
 pub macro-size-spec : {M : Type 1} → statement M
 macro-size-spec =
@@ -105,10 +130,17 @@ macro-size-spec =
     enum-told
     enum-told-2
     enum-told-3
+    load-size-requires
+    add-result
     enum-told-4
+    load-size-requires-2
+    add-result-2
     enum-told-5
+    lookup-size-requires
     enum-told-6
+    lookup-size-requires-2
     enum-told-7
+    lookup-size-requires-3
     enum-told-8
     enum-told-9
     enum-told-10

@@ -1,4 +1,5 @@
--- `expander::macros::size_at` meets its contract. By the mark: one line, or the macro of the opcode. Assumes nothing.
+-- `expander::macros::size_at` meets its contract. By the mark: one line, or the macro of the opcode and its arguments. Assumes nothing.
+use mathlib.Core.Path.{_∙_}
 use Rattle.expander.proofs.PartSizes.{plain-length, marked-length}
 use borrow.Author.Needs.{needs}
 use Rattle.expander.proofs.macros.size_at.Statement.{statement}
@@ -11,7 +12,9 @@ array-read-if1 : tie.Need-array-read-if1
 array-read-if1 c = search needs
 
 returns : tie.Need-returns
-returns c = plain-length (c .before .before .before .args .program .now) _ (c .before .before .before .args .i) (c .before .numbers-at .ensures) (c .if1 .taken)
+returns c =
+    let s = c .before .before .before in
+    plain-length (s .args .program .now) _ (s .args .i) (c .before .numbers-at .ensures) (c .if1 .taken)
 
 array-read-opcode-of : tie.Need-array-read-opcode-of
 array-read-opcode-of c = search needs
@@ -19,11 +22,28 @@ array-read-opcode-of c = search needs
 opcode-of-requires : tie.Need-opcode-of-requires
 opcode-of-requires c κs = search needs
 
+array-read-coded : tie.Need-array-read-coded
+array-read-coded c = search needs
+
+coded-requires : tie.Need-coded-requires
+coded-requires c κs = search needs
+
+array-read-coded-2 : tie.Need-array-read-coded-2
+array-read-coded-2 c = search needs
+
+coded-requires-2 : tie.Need-coded-requires-2
+coded-requires-2 c κs = search needs
+
 macro-size-requires : tie.Need-macro-size-requires
 macro-size-requires c κs = search needs
 
 returns-2 : tie.Need-returns-2
-returns-2 c = marked-length (c .before .before .before .before .before .args .program .now) _ (c .before .before .before .before .before .args .i) (c .before .before .before .numbers-at .ensures) _ _ (c .before .opcode-of .ensures) (c .before .before .if1 .left) (c .macro-size .ensures)
+returns-2 c =
+    let o = c .before .before .before in
+    let n = o .before .before in
+    let s = n .before .before in
+    c .macro-size .ensures _
+    ∙ marked-length (s .args .program .now) _ (s .args .i) (n .numbers-at .ensures) _ _ _ (o .opcode-of .ensures) (o .before .if1 .left) (c .before .before .coded .ensures) (c .before .coded2 .ensures)
 
 pub size-at-spec : {M : Type 1} → statement M
 size-at-spec =
@@ -34,5 +54,9 @@ size-at-spec =
     returns
     array-read-opcode-of
     opcode-of-requires
+    array-read-coded
+    coded-requires
+    array-read-coded-2
+    coded-requires-2
     macro-size-requires
     returns-2)

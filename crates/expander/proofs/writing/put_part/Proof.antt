@@ -1,8 +1,8 @@
 -- `expander::writing::put_part` meets its contract. By the line's mark. Assumes nothing.
 use native.Mathlib.Omega.{arith}
 use Rattle.expander.specs.Starts.{lookedUp}
-use Rattle.expander.proofs.PartSizes.{plain-length}
-use Rattle.expander.proofs.PieceWrites.{plain-wrote, marked-room, marked-wrote}
+use Rattle.expander.proofs.PartSizes.{plain-length, marked-length}
+use Rattle.expander.proofs.PieceWrites.{plain-wrote, marked-wrote}
 use borrow.Author.Needs.{needs}
 use Rattle.expander.proofs.writing.put_part.Statement.{statement}
 use Rattle.expander.proofs.writing.put_part.Tie as tie
@@ -70,7 +70,8 @@ put-macro-requires : tie.Need-put-macro-requires
 put-macro-requires c κs =
     let n = c .before .before .before .before .before in
     let s = n .before .before .before in
-    omega (arith, marked-room (lookedUp (s .args .starts .now)) (s .args .program .now) _ (s .args .i) _ (n .numbers-at .ensures) (c .before .before .before .before .opcode-of .ensures) _ _ (c .before .before .before .if1 .left) (c .before .coded .ensures) (c .coded2 .ensures), s .pre)
+    let o = c .before .before .before .before in
+    omega (arith, marked-length (s .args .program .now) _ (s .args .i) (n .numbers-at .ensures) _ _ _ (o .opcode-of .ensures) (c .before .before .before .if1 .left) (c .before .coded .ensures) (c .coded2 .ensures), s .pre)
 
 same-length-2 : tie.Need-same-length-2
 same-length-2 c = search needs

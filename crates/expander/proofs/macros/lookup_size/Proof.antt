@@ -1,0 +1,39 @@
+-- `expander::macros::lookup_size` meets its contract. The lengths of the pieces are added. Assumes nothing.
+use native.Mathlib.Omega.{arith}
+use Rattle.model.specs.Stored.{operandOf}
+use Rattle.model.specs.Expansion.{scale, combine, fetch, writeBack}
+use Rattle.model.proofs.Loads.{load-size}
+use Rattle.model.proofs.Lengths.{lookup-pieces}
+use borrow.Author.Needs.{needs}
+use Rattle.expander.proofs.macros.lookup_size.Statement.{statement}
+use Rattle.expander.proofs.macros.lookup_size.Tie as tie
+
+load-size-requires : tie.Need-load-size-requires
+load-size-requires c κs = search needs
+
+add-result : tie.Need-add-result
+add-result c = record { fits = omega (arith, load-size 1 (operandOf (c .before .args .a)), c .load-size .ensures 1) }
+
+load-size-requires-2 : tie.Need-load-size-requires-2
+load-size-requires-2 c κs = search needs
+
+add-result-2 : tie.Need-add-result-2
+add-result-2 c =
+    let f = c .before in
+    let s = f .before in
+    record { fits = omega (arith, load-size 1 (operandOf (s .args .a)), f .load-size .ensures 1, load-size 2 (operandOf (s .args .b)), c .load-size2 .ensures 2) }
+
+add-result-3 : tie.Need-add-result-3
+add-result-3 c =
+    let f = c .before in
+    let s = f .before in
+    record { fits = omega (arith, load-size 1 (operandOf (s .args .a)), f .load-size .ensures 1, load-size 2 (operandOf (s .args .b)), c .load-size2 .ensures 2) }
+
+returns : tie.Need-returns
+unfolding scale combine fetch writeBack
+returns c = λ t d. rw lookup-pieces (omega (arith, c .before .load-size .ensures 1, c .load-size2 .ensures 2))
+
+pub lookup-size-spec : {M : Type 1} → statement M
+lookup-size-spec =
+    tie.close
+    (tie.spec load-size-requires add-result load-size-requires-2 add-result-2 add-result-3 returns)
