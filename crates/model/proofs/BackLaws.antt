@@ -1,7 +1,7 @@
 -- The way back from an image, whatever its scratch registers hold, passes condition 19 and is the bit state; and what passes it on the
 -- way there is a bit state. Place by place. Assumes nothing.
 use mathlib.Core.Path.{_≡_, refl, sym, ap, _∙_, subst}
-use mathlib.Core.Bool.{Bool, true, cond, _||_}
+use mathlib.Core.Bool.{Bool, true, false, cond, _||_}
 use mathlib.Core.List.{List, [], _∷_}
 use mathlib.Core.Logic.{_⊎_, inl, inr}
 use Prim.Native.Nat.{ℕ, zero, suc, _+_, _-_, _≤_, _<_}
@@ -16,7 +16,8 @@ use Rattle.model.specs.declared.Kind.the-variants.{Neither, Public, Sens
 use Rattle.model.specs.Places.{State, kind}
 use Rattle.model.specs.Code.{code, page}
 use Rattle.model.specs.Images.{Bit, BitState, fixed, imageAt, backAt, image, back, bitRight, imageRight, every, ButScratch}
-use Rattle.model.proofs.TestLaws.{holds, and-both, both-and}
+use Rattle.model.proofs.TestLaws.{holds, is-true, and-both, both-and}
+use Rattle.model.proofs.Finite.{code-back}
 use Rattle.model.proofs.PlaceLaws.{mapAt-length, mapAt-getD, image-length}
 
 -- ---- there and back
@@ -26,10 +27,8 @@ unfolding backAt
 back-fixed i x e = rw e
 
 back-bit : (x : ℕ) → x ≤ 1 → (i : ℕ) → kind i ≡ Sensitive → backAt i (code x) ≡ x
-unfolding backAt code
-back-bit zero h i e = rw e
-back-bit (suc zero) h i e = rw e
-back-bit (suc (suc x)) h i e = absurd (not-suc-le-zero (le-of-suc-le-suc h))
+unfolding backAt
+back-bit x h i e = rw e (code-back x (omega arith))
 
 back-public : (i x : ℕ) → kind i ≡ Public → backAt i x ≡ x
 unfolding backAt
@@ -112,10 +111,13 @@ every-passes f i (x ∷ l) h =
     both-and (f i x) (every f (suc i) l) (subst (λ (m : ℕ). T (f m x)) (add-zero i) (h 0 (omega arith)))
     (every-passes f (suc i) l (λ n g. subst (λ (m : ℕ). T (f m (getD l n 0))) (add-suc i n ∙ sym (suc-add i n)) (h (suc n) (omega arith))))
 
+or-right : (x y : Bool) → T y → T (x || y)
+or-right true y h = tt
+or-right false y h = h
+
 code-right : (x : ℕ) → x ≤ 1 → T (eqb (code x) (code 1) || eqb (code x) (code 0))
-unfolding code
-code-right zero h = tt
-code-right (suc zero) h = tt
+code-right zero h = or-right (eqb (code 0) (code 1)) (eqb (code 0) (code 0)) (eqb-refl (code 0))
+code-right (suc zero) h = rw (is-true (eqb (code 1) (code 1)) (eqb-refl (code 1))) tt
 code-right (suc (suc x)) h = absurd (omega arith)
 
 fixed-right : (i : ℕ) → T (cond (ltb i 4) (cond (eqb i 0) (eqb (fixed i) 0) true) (eqb (fixed i) (fixed i)))

@@ -6,7 +6,7 @@ use mathlib.Core.List.{List, [], _∷_, _++_, flatMap}
 use Prim.Native.Nat.{ℕ, zero, suc, _*_, _≤_}
 use native.Mathlib.Omega.{arith}
 use borrow.Author.Tests.{le-ltb}
-use lib.Dec.{T, ltb, leb, le→leb, nltb→le}
+use lib.Dec.{T, ltb, leb, lt→ltb, le→leb, nltb→le}
 use lib.ListN.{length}
 use Rattle.model.specs.declared.Mark.{Mark}
 use Rattle.model.specs.declared.Mark.the-variants.{Unmarked, Marked}
@@ -21,10 +21,11 @@ use Rattle.model.specs.Limits.{maxLines, maxAccepted, longest}
 use Rattle.model.specs.Answers.{Report, counted}
 use Rattle.model.specs.Lines.{fills, operandRight, targetRight, isLiteral, correct, AllCorrect}
 use Rattle.model.specs.Stored.{codes, lineCount, lines, programCheck}
-use Rattle.model.specs.Code.{code, andTable, orrTable, xorTable}
+use Rattle.model.specs.Code.{code, mask, andTable, orrTable, xorTable}
 use Rattle.model.specs.Expansion.{coded, move, load, scale, combine, fetch, flip, writeBack, lookup, negate, copy, macro, newTarget, retarget, partOf, part, size, start, joined, expand}
 use Rattle.model.specs.Marks.{isAbove, holds16, markFault, marksOf, markCheck, Accepted}
 use Rattle.model.proofs.TestLaws.{and-both, both-and}
+use Rattle.model.proofs.Finite.{code-low, mask-low, table-low}
 use Rattle.model.proofs.Lengths.{macro-size}
 use Rattle.model.proofs.Parts.{joined-length}
 use Rattle.model.proofs.Acceptance.{clear, AllRight, marks-right, accepted-right}
@@ -87,13 +88,17 @@ load-correct : (n : ℕ) (a : Operand) → T (ltb n 32) → T (operandRight true
 unfolding load operandRight isLiteral
 load-correct n a hn ha = (move-correct (Register n) (Register 0) hn tt tt, (move-correct (Register n) a hn tt ha, tt))
 
+-- a line that masks with both bits of a code
+mask-right : T (leb mask 255 && true)
+mask-right = both-and (leb mask 255) true (le→leb mask 255 (omega (arith, mask-low))) tt
+
 scale-correct : AllCorrect scale
 unfolding scale correct
-scale-correct = (tt, (tt, (tt, tt)))
+scale-correct = (mask-right, (tt, (tt, tt)))
 
 combine-correct : AllCorrect combine
 unfolding combine correct
-combine-correct = (tt, (tt, tt))
+combine-correct = (mask-right, (tt, tt))
 
 fetch-correct : (t : ℕ) → T (ltb t 256) → AllCorrect (fetch t)
 unfolding fetch operandRight isLiteral
@@ -101,7 +106,7 @@ fetch-correct t h = (move-correct (Register 3) (Register 0) tt tt tt, (move-corr
 
 flip-correct : AllCorrect flip
 unfolding flip correct
-flip-correct = (tt, tt)
+flip-correct = (mask-right, tt)
 
 write-back-correct : (n : ℕ) (d : Operand) → T (ltb n 32) → T (operandRight true d) → T (not (isLiteral d)) → AllCorrect (writeBack n d)
 unfolding writeBack operandRight
@@ -132,9 +137,9 @@ macro-correct Nop d a b hd nd ha hb = tt
 macro-correct Jmp d a b hd nd ha hb = tt
 macro-correct Not d a b hd nd ha hb = negate-correct d a hd nd ha
 macro-correct Mov d a b hd nd ha hb = copy-correct d a hd nd ha
-macro-correct And d a b hd nd ha hb = lookup-correct d a hd nd ha andTable b hb tt
-macro-correct Orr d a b hd nd ha hb = lookup-correct d a hd nd ha orrTable b hb tt
-macro-correct Xor d a b hd nd ha hb = lookup-correct d a hd nd ha xorTable b hb tt
+macro-correct And d a b hd nd ha hb = lookup-correct d a hd nd ha andTable b hb (lt→ltb andTable 256 (table-low 0 (omega arith)))
+macro-correct Orr d a b hd nd ha hb = lookup-correct d a hd nd ha orrTable b hb (lt→ltb orrTable 256 (table-low 1 (omega arith)))
+macro-correct Xor d a b hd nd ha hb = lookup-correct d a hd nd ha xorTable b hb (lt→ltb xorTable 256 (table-low 2 (omega arith)))
 macro-correct Lsl d a b hd nd ha hb = tt
 macro-correct Lsr d a b hd nd ha hb = tt
 macro-correct Add d a b hd nd ha hb = tt
@@ -144,8 +149,8 @@ macro-correct Bne d a b hd nd ha hb = tt
 
 code-byte : (n : ℕ) → T (leb (code n) 255)
 unfolding code
-code-byte zero = tt
-code-byte (suc n) = tt
+code-byte zero = le→leb (code 0) 255 (omega (arith, code-low 0 (omega arith)))
+code-byte (suc n) = le→leb (code 1) 255 (omega (arith, code-low 1 (omega arith)))
 
 coded-right : (must : Bool) (o : Operand) → T (operandRight must o) → T (operandRight must (coded o))
 unfolding operandRight coded

@@ -1,11 +1,9 @@
--- The finite part: all numbers that a macro shows or leaves and that a bit could change, computed for every table and all bits by one
--- test, and what it says of each. Assumes nothing.
+-- The finite part: all numbers that a macro shows or leaves and that a bit could change, computed for every table and all bits by
+-- one test, and what it says of each. Assumes nothing.
 use mathlib.Core.Path.{_≡_, refl}
 use mathlib.Core.Bool.{Bool, true, false, cond, _&&_}
 use mathlib.Core.List.{List, [], _∷_}
 use Prim.Native.Nat.{ℕ, zero, suc, _+_, _*_, _%_, _<_}
-use native.Mathlib.Nat.{not-suc-le-zero}
-use native.Mathlib.Decide.{ℕ-discrete}
 use native.Mathlib.Omega.{arith}
 use borrow.Author.Tests.{ltb-true}
 use lib.Dec.{T, eqb, ltb, eqb→eq}
@@ -17,7 +15,7 @@ use Rattle.model.specs.declared.Opcode.{Opcode}
 use Rattle.model.specs.declared.Opcode.the-variants.{Not, And, Orr, Xor}
 use Rattle.model.specs.Step.{weight, distance, alu}
 use Rattle.model.specs.Code.{code, mask, page, andTable, orrTable, xorTable}
-use Rattle.model.proofs.TestLaws.{and-both}
+use Rattle.model.proofs.TestLaws.{and-both, allBelow, all-below}
 
 -- ---- the three tables, by number
 
@@ -95,35 +93,30 @@ pairs o a b =
     ∷ pair (weight (256 + slot o a b % 256)) (tableWeight o)
     ∷ pair (page (slot o a b)) (code c)
     ∷ pair (under c 2) 1
+    ∷ pair (cond (eqb x (code 1)) 1 0) a
+    ∷ pair (under x 256) 1
+    ∷ pair (under mask 256) 1
+    ∷ pair (under (tableAt o) 256) 1
     ∷ []
 
 abbrev pub agree : List Pair → Bool
 agree [] = true
 agree (p ∷ ps) = eqb (p .left) (p .right) && agree ps
 
-abbrev all : ℕ → (ℕ → Bool) → Bool
-all zero f = true
-all (suc n) f = f n && all n f
+-- a test of every table and of both arguments' bits
+abbrev forAll : (ℕ → ℕ → ℕ → Bool) → Bool
+forAll f = allBelow (λ o. allBelow (λ a. allBelow (λ b. f o a b) 2) 2) 3
 
-abbrev test : ℕ → ℕ → ℕ → Bool
-test o a b = agree (pairs o a b)
-
-abbrev testAll : Bool
-testAll = all 3 (λ o. all 2 (λ a. all 2 (λ b. test o a b)))
-
-passed : T testAll
-unfolding pairs code alu page ones distance
+passed : T (forAll (λ o a b. agree (pairs o a b)))
+unfolding allBelow pairs code alu page ones distance
 passed = tt
 
 -- ---- from the test to each fact
 
-all-at : (n : ℕ) (f : ℕ → Bool) → T (all n f) → (i : ℕ) → i < n → T (f i)
-all-at zero f h i g = absurd (not-suc-le-zero g)
-all-at (suc n) f h i g = go (λ l. all-at n f (and-both (f n) (all n f) h .1) i l) (ℕ-discrete i n)
-  where
-    go : (i < n → T (f i)) → Dec (i ≡ n) → T (f i)
-    go ih (yes e) = rw e (and-both (f n) (all n f) h .0)
-    go ih (no e) = ih (omega arith)
+for-all : (f : ℕ → ℕ → ℕ → Bool) → T (forAll f) → (o a b : ℕ) → o < 3 → a < 2 → b < 2 → T (f o a b)
+for-all f h o a b ho ha hb =
+    let tables : T (allBelow (λ a. allBelow (λ b. f o a b) 2) 2) = all-below (λ o. allBelow (λ a. allBelow (λ b. f o a b) 2) 2) 3 o h ho in
+    all-below (λ b. f o a b) 2 b (all-below (λ a. allBelow (λ b. f o a b) 2) 2 a tables ha) hb
 
 agree-at : (ps : List Pair) → T (agree ps) → (i : ℕ) → getD ps i (pair 0 0) .left ≡ getD ps i (pair 0 0) .right
 agree-at [] h i = refl
@@ -131,9 +124,7 @@ agree-at (p ∷ ps) h zero = eqb→eq (p .left) (p .right) (and-both (eqb (p .le
 agree-at (p ∷ ps) h (suc i) = agree-at ps (and-both (eqb (p .left) (p .right)) (agree ps) h .1) i
 
 fact : (o a b : ℕ) → o < 3 → a < 2 → b < 2 → (i : ℕ) → getD (pairs o a b) i (pair 0 0) .left ≡ getD (pairs o a b) i (pair 0 0) .right
-fact o a b ho ha hb i =
-    agree-at (pairs o a b)
-    (all-at 2 (λ b. test o a b) (all-at 2 (λ a. all 2 (λ b. test o a b)) (all-at 3 (λ o. all 2 (λ a. all 2 (λ b. test o a b))) passed o ho) a ha) b hb) i
+fact o a b ho ha hb i = agree-at (pairs o a b) (for-all (λ o a b. agree (pairs o a b)) passed o a b ho ha hb) i
 
 under-lt : (m n : ℕ) → _≡_ {A = ℕ} (under m n) 1 → m < n
 under-lt m n e = go (ltb m n) refl e
@@ -198,6 +189,24 @@ module _ (a : ℕ) (h : a < 2) where
   pub not-bit : alu Marked Not a 0 < 2
   unfolding pairs
   not-bit = under-lt (alu Marked Not a 0) 2 (one 14)
+
+  -- what the way back makes of a code; and that it is a byte
+  pub code-back : cond (eqb (code a) (code 1)) 1 0 ≡ a
+  unfolding pairs
+  code-back = one 19
+
+  pub code-low : code a < 256
+  unfolding pairs
+  code-low = under-lt (code a) 256 (one 20)
+
+-- of no bit
+pub mask-low : mask < 256
+unfolding pairs
+mask-low = under-lt mask 256 (fact 0 0 0 (omega arith) (omega arith) (omega arith) 21)
+
+pub table-low : (o : ℕ) → o < 3 → tableAt o < 256
+unfolding pairs
+table-low o h = under-lt (tableAt o) 256 (fact o 0 0 h (omega arith) (omega arith) 22)
 
 -- of two bits and a table
 module _ (o a b : ℕ) (ho : o < 3) (ha : a < 2) (hb : b < 2) where

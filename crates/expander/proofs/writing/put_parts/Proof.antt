@@ -1,6 +1,6 @@
 -- `expander::writing::put_parts` meets its contract. The loop's invariant: the parts of the first i lines are written, up to `at`. Assumes nothing.
 use Prim.Native.Nat.{_≤_, _-_}
-use lib.ListN.{length, take}
+use lib.ListN.{take}
 use native.Mathlib.Omega.{arith}
 use borrow.Author.Needs.{needs}
 use Rattle.model.specs.Stored.{lines}
