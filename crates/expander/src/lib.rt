@@ -46,9 +46,8 @@ fn write_expansion(program: &[u16], out: &mut [u16]) -> Answer
     Answer::Count(total as u32)
 }
 
-// The expansion of a stored program at the front of a lent store: its count of lines, or the mark check's refusal, then 17. A refusal
-// leaves the store untouched.
-pub fn expand(program: &[u16], out: &mut [u16]) -> Answer
+// The body of `expand`: the mark check's refusal, or the expansion of what it accepts.
+fn make_expansion(program: &[u16], out: &mut [u16]) -> Answer
     ensures { λ r. ⌜ outcome (report r) (now (out .exit) ∷ []) ≡ expandOutcome (now (program .entry)) (now (out .entry)) ⌝ }
 {
     let checked = check(program);
@@ -56,4 +55,12 @@ pub fn expand(program: &[u16], out: &mut [u16]) -> Answer
         return checked;
     };
     write_expansion(program, out)
+}
+
+// The expansion of a stored program at the front of a lent store: its count of lines, or the mark check's refusal, then 17. A refusal
+// leaves the store untouched.
+pub fn expand(program: &[u16], out: &mut [u16]) -> Answer
+    ensures { λ r. ⌜ outcome (report r) (now (out .exit) ∷ []) ≡ expandOutcome (now (program .entry)) (now (out .entry)) ⌝ }
+{
+    make_expansion(program, out)
 }

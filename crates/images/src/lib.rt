@@ -165,8 +165,8 @@ fn put_back(image: &[u8], bits: &mut [u8])
     }
 }
 
-// The image of a bit state: 544 bytes written, or 18, then 19, with nothing touched.
-pub fn to_image(bits: &[u8], image: &mut [u8]) -> Answer
+// The bodies of `to_image` and `from_image`: 18 for either length, then 19, else the store filled.
+fn make_image(bits: &[u8], image: &mut [u8]) -> Answer
     ensures { λ r. ⌜ outcome (report r) (now (image .exit) ∷ []) ≡ toImageOutcome (now (bits .entry)) (now (image .entry)) ⌝ }
 {
     if bits.len() != STATE_SIZE {
@@ -191,8 +191,7 @@ pub fn to_image(bits: &[u8], image: &mut [u8]) -> Answer
     }
 }
 
-// The bit state of an image, its scratch registers cleared: 544 bytes written, or 18, then 19, with nothing touched.
-pub fn from_image(image: &[u8], bits: &mut [u8]) -> Answer
+fn make_bits(image: &[u8], bits: &mut [u8]) -> Answer
     ensures { λ r. ⌜ outcome (report r) (now (bits .exit) ∷ []) ≡ fromImageOutcome (now (image .entry)) (now (bits .entry)) ⌝ }
 {
     if image.len() != STATE_SIZE {
@@ -215,4 +214,18 @@ pub fn from_image(image: &[u8], bits: &mut [u8]) -> Answer
         number: 19,
         line: 0,
     }
+}
+
+// The image of a bit state: 544 bytes written, or 18, then 19, with nothing touched.
+pub fn to_image(bits: &[u8], image: &mut [u8]) -> Answer
+    ensures { λ r. ⌜ outcome (report r) (now (image .exit) ∷ []) ≡ toImageOutcome (now (bits .entry)) (now (image .entry)) ⌝ }
+{
+    make_image(bits, image)
+}
+
+// The bit state of an image, its scratch registers cleared: 544 bytes written, or 18, then 19, with nothing touched.
+pub fn from_image(image: &[u8], bits: &mut [u8]) -> Answer
+    ensures { λ r. ⌜ outcome (report r) (now (bits .exit) ∷ []) ≡ fromImageOutcome (now (image .entry)) (now (bits .entry)) ⌝ }
+{
+    make_bits(image, bits)
 }

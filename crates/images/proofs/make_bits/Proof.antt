@@ -1,9 +1,9 @@
--- `images::from_image` meets its contract. A return for each case of `carried`. Assumes nothing.
+-- `images::make_bits` meets its contract. A return for each case of `carried`. Assumes nothing.
 use Rattle.model.specs.Images.{back, imageRight}
 use Rattle.images.proofs.Walk.{first-long, second-long, turned-down, goes-over}
 use borrow.Author.Needs.{needs}
-use Rattle.images.proofs.from_image.Statement.{statement}
-use Rattle.images.proofs.from_image.Tie as tie
+use Rattle.images.proofs.make_bits.Statement.{statement}
+use Rattle.images.proofs.make_bits.Tie as tie
 
 returns : tie.Need-returns
 returns c =
@@ -38,8 +38,8 @@ returns-4 c =
     let s = c .before .before .before .before .before .before in
     turned-down imageRight back (s .args .image .now) (s .args .bits .now) _ (c .before .before .before .if1 .left) (c .before .before .if2 .left) (c .before .places-right .ensures) (c .if3 .left)
 
-pub from-image-spec : {M : Type 1} → statement M
-from-image-spec =
+pub make-bits-spec : {M : Type 1} → statement M
+make-bits-spec =
     tie.close
     (tie.spec
     returns

@@ -1,9 +1,9 @@
--- `images::to_image` meets its contract. A return for each case of `carried`. Assumes nothing.
+-- `images::make_image` meets its contract. A return for each case of `carried`. Assumes nothing.
 use Rattle.model.specs.Images.{image, bitRight}
 use Rattle.images.proofs.Walk.{first-long, second-long, turned-down, goes-over}
 use borrow.Author.Needs.{needs}
-use Rattle.images.proofs.to_image.Statement.{statement}
-use Rattle.images.proofs.to_image.Tie as tie
+use Rattle.images.proofs.make_image.Statement.{statement}
+use Rattle.images.proofs.make_image.Tie as tie
 
 returns : tie.Need-returns
 returns c =
@@ -38,8 +38,8 @@ returns-4 c =
     let s = c .before .before .before .before .before .before in
     turned-down bitRight image (s .args .bits .now) (s .args .image .now) _ (c .before .before .before .if1 .left) (c .before .before .if2 .left) (c .before .bits-right .ensures) (c .if3 .left)
 
-pub to-image-spec : {M : Type 1} → statement M
-to-image-spec =
+pub make-image-spec : {M : Type 1} → statement M
+make-image-spec =
     tie.close
     (tie.spec
     returns

@@ -1,8 +1,8 @@
--- `expander::expand` meets its contract. A refusal is handed on; what the mark check passes is accepted. Assumes nothing.
+-- `expander::make_expansion` meets its contract. A refusal is handed on; what the mark check passes is accepted. Assumes nothing.
 use Rattle.expander.proofs.Outcomes.{expand-stops, expand-goes-on, accepted-by}
 use borrow.Author.Needs.{needs}
-use Rattle.expander.proofs.expand.Statement.{statement}
-use Rattle.expander.proofs.expand.Tie as tie
+use Rattle.expander.proofs.make_expansion.Statement.{statement}
+use Rattle.expander.proofs.make_expansion.Tie as tie
 
 check-requires : tie.Need-check-requires
 check-requires c κs = search needs
@@ -26,7 +26,7 @@ returns-2 c =
     let s = c .before .before .before .before .before .before .before .before .before in
     expand-goes-on (s .args .program .now) (s .args .out .now) _ (c .before .before .before .before .before .before .check .result) (c .before .before .write-expansion .result) _ (c .before .before .before .before .before .before .check .ensures) (c .before .before .before .before .enum-told .given .1) (c .before .before .write-expansion .ensures)
 
-pub expand-spec : {M : Type 1} → statement M
-expand-spec =
+pub make-expansion-spec : {M : Type 1} → statement M
+make-expansion-spec =
     tie.close
     (tie.spec check-requires enum-told returns write-expansion-requires same-length returns-2)
