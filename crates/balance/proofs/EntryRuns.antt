@@ -9,6 +9,7 @@ use lib.Dec.{ltb}
 use lib.ListN.{length, take, drop}
 use lib.Seq.{take-at}
 use Rattle.model.specs.declared.Line.{Line}
+use Rattle.model.specs.Layouts.{neighbours, near}
 use Rattle.model.specs.Limits.{stateSize, lineWidth, rowWidth}
 use Rattle.model.specs.Answers.{Report, done, counted, Outcome, outcome, atFront}
 use Rattle.model.specs.Places.{State}
@@ -43,21 +44,21 @@ checked-source p vs e = go (check-answer p) refl
 record Listed (p e : List ℕ) (n : ℕ) : Type 0 where
   source : programCheck p ≡ counted (lineCount p)
   accepted : Accepted (lines p)
-  checked : programCheck (listing e n) ≡ counted (length (expand (lines p)))
-  lines-are : lines (listing e n) ≡ expand (lines p)
+  checked : programCheck (listing e n) ≡ counted (length (expand neighbours (lines p)))
+  lines-are : lines (listing e n) ≡ expand neighbours (lines p)
 
 listed : (p e : List ℕ) (n : ℕ) → Expanded p e n → Listed p e n
 listed p e n E =
-    let W = expansion-written p (E .lent) n e (E .call) in
+    let W = expansion-written neighbours p (E .lent) n e (E .call) in
     let A = accepted-source p (W .values) (W .checked) in
-    let c = flatMap codes (expand (lines p)) in
-    let long : length c ≡ lineWidth * n = codes-length (expand (lines p)) ∙ ap (λ (m : ℕ). lineWidth * m) (sym (W .count)) in
+    let c = flatMap codes (expand neighbours (lines p)) in
+    let long : length c ≡ lineWidth * n = codes-length (expand neighbours (lines p)) ∙ ap (λ (m : ℕ). lineWidth * m) (sym (W .count)) in
     let is : listing e n ≡ c = ap (take (lineWidth * n)) (W .listing) ∙ take-at c (drop (length c) (E .lent)) (lineWidth * n) long in
     record {
       source = checked-source p (W .values) (W .checked);
       accepted = A;
-      checked = ap programCheck is ∙ expansion-check (lines p) A;
-      lines-are = ap lines is ∙ expansion-lines (lines p) A;
+      checked = ap programCheck is ∙ expansion-check neighbours near (lines p) A;
+      lines-are = ap lines is ∙ expansion-lines neighbours near (lines p) A;
     }
 
 -- ---- what a run leaves
@@ -83,19 +84,19 @@ leaves-is p r x = ap (λ (a : Report). outcome a (r .state ∷ atFront (flatMap 
 
 pub equal-trace-stores : EqualTraceStores
 equal-trace-stores p e n E s t v w S U same k b x y hx hy =
-    let L = listed p e n E in
-    let A = image-made s (S .lent) v _ (S .call) in
-    let B = image-made t (U .lent) w _ (U .call) in
-    let q = expand (lines p) in
-    let i = start (lines p) k in
-    let one = run q b i (image s) in
-    let other = run q b i (image t) in
-    let R = equal-traces (lines p) (L .accepted) k b s t (A .0) (B .0) same in
-    let call : (u u′ : State) (z : List ℕ) → u′ ≡ image u → BitState u → rowWidth * b ≤ length z → runOutcome (listing e n) i b u′ z ≡ runLeaves q (run q b i (image u)) z =
+    let N = listed p e n E in
+    let A = image-made neighbours s (S .lent) v _ (S .call) in
+    let B = image-made neighbours t (U .lent) w _ (U .call) in
+    let q = expand neighbours (lines p) in
+    let i = start neighbours (lines p) k in
+    let one = run q b i (image neighbours s) in
+    let other = run q b i (image neighbours t) in
+    let R = equal-traces neighbours near (lines p) (N .accepted) k b s t (A .0) (B .0) same in
+    let call : (u u′ : State) (z : List ℕ) → u′ ≡ image neighbours u → BitState u → rowWidth * b ≤ length z → runOutcome (listing e n) i b u′ z ≡ runLeaves q (run q b i (image neighbours u)) z =
     λ u u′ z eu bu hz.
     ap (λ (a : State). runOutcome (listing e n) i b a z) eu
-    ∙ run-outcome (listing e n) i b (length q) (image u) z (L .checked) (image-length u ∙ bu .long) hz
-    ∙ ap (λ (a : List Line). runLeaves a (run a b i (image u)) z) (L .lines-are) in
+    ∙ run-outcome (listing e n) i b (length q) (image neighbours u) z (N .checked) (image-length neighbours u ∙ bu .long) hz
+    ∙ ap (λ (a : List Line). runLeaves a (run a b i (image neighbours u)) z) (N .lines-are) in
     let answers : answer q one ≡ answer q other = R .answers in
     let rows : flatMap (λ r. r) (other .rows) ≡ flatMap (λ r. r) (one .rows) = ap (flatMap (λ r. r)) (sym (R .traces)) in
     record {
@@ -111,22 +112,22 @@ equal-trace-stores p e n E s t v w S U same k b x y hx hy =
 
 -- ---- (b)
 
-back-goes : (s v lent : State) → BitState s → ButScratch v (image s) → length lent ≡ stateSize → fromImageOutcome v lent ≡ outcome (counted stateSize) (s ∷ [])
+back-goes : (s v lent : State) → BitState s → ButScratch v (image neighbours s) → length lent ≡ stateSize → fromImageOutcome v lent ≡ outcome (counted stateSize) (s ∷ [])
 unfolding carried ButScratch
 back-goes s v lent b h l =
-    rw (eq-eqb (length v) stateSize (h .0 ∙ image-length s ∙ b .long), eq-eqb (length lent) stateSize l, is-true (every imageRight 0 v) (image-passes s v b h))
-    (ap (λ (z : State). outcome (counted stateSize) (z ∷ [])) (back-image s v b h))
+    rw (eq-eqb (length v) stateSize (h .0 ∙ image-length neighbours s ∙ b .long), eq-eqb (length lent) stateSize l, is-true (every (imageRight neighbours) 0 v) (image-passes neighbours s v b h))
+    (ap (λ (z : State). outcome (counted stateSize) (z ∷ [])) (back-image neighbours near s v b h))
 
 pub source-followed : SourceFollowed
 source-followed p e n E s v S k m x y hx hy =
-    let L = listed p e n E in
-    let A = image-made s (S .lent) v _ (S .call) in
-    let q = expand (lines p) in
-    let i = start (lines p) k in
-    let b = span (lines p) m k s in
+    let N = listed p e n E in
+    let A = image-made neighbours s (S .lent) v _ (S .call) in
+    let q = expand neighbours (lines p) in
+    let i = start neighbours (lines p) k in
+    let b = span neighbours (lines p) m k s in
     let source = run (lines p) m k s in
-    let expansion = run q b i (image s) in
-    let F = correspondence (lines p) (L .accepted) k m s (A .0) in
+    let expansion = run q b i (image neighbours s) in
+    let F = correspondence neighbours near (lines p) (N .accepted) k m s (A .0) in
     record {
       ending = ending (lines p) source;
       counter = source .at;
@@ -136,11 +137,11 @@ source-followed p e n E s v S k m x y hx hy =
       endingExpanded = ending q expansion;
       state = expansion .state;
       traceExpanded = atFront (flatMap (λ r. r) (expansion .rows)) y;
-      sourceCall = run-outcome p k m (lineCount p) s x (L .source) (A .0 .long) hx ∙ leaves-is (lines p) source x;
+      sourceCall = run-outcome p k m (lineCount p) s x (N .source) (A .0 .long) hx ∙ leaves-is (lines p) source x;
       expansionCall =
           ap (λ (a : State). runOutcome (listing e n) i b a y) (A .1)
-          ∙ run-outcome (listing e n) i b (length q) (image s) y (L .checked) (image-length s ∙ A .0 .long) hy
-          ∙ ap (λ (a : List Line). runLeaves a (run a b i (image s)) y) (L .lines-are)
+          ∙ run-outcome (listing e n) i b (length q) (image neighbours s) y (N .checked) (image-length neighbours s ∙ A .0 .long) hy
+          ∙ ap (λ (a : List Line). runLeaves a (run a b i (image neighbours s)) y) (N .lines-are)
           ∙ leaves-is q expansion y
           ∙ ap₂ (λ (c l : ℕ). outcome (done (ending q expansion ∷ c ∷ l ∷ [])) (expansion .state ∷ atFront (flatMap (λ r. r) (expansion .rows)) y ∷ [])) (F .stands) (F .steps);
       image = F .holds;
@@ -153,18 +154,18 @@ pub twin-claim : (q : List ℕ) (i b : ℕ) (v w : State) (x y : List ℕ) (one 
     → one ≡ runOutcome q i b v x → other ≡ runOutcome q i b w y → Twin q i b v w x y → SameCalls x y one other
 twin-claim q i b v w x y one other e f W =
     let C = equal-trace-stores (W .program) (W .written) (W .count) (W .expanded) (W .bits) (W .otherBits) v w (W .imaged) (W .otherImaged) (W .same) (W .line) b x y (W .room) (W .otherRoom) in
-    let g : (u : State) (z : List ℕ) → runOutcome q i b u z ≡ runOutcome (listing (W .written) (W .count)) (start (lines (W .program)) (W .line)) b u z =
+    let g : (u : State) (z : List ℕ) → runOutcome q i b u z ≡ runOutcome (listing (W .written) (W .count)) (start neighbours (lines (W .program)) (W .line)) b u z =
     λ u z. ap₂ (λ (a : List ℕ) (k : ℕ). runOutcome a k b u z) (W .isListing) (W .isStart) in
     subst₂ (λ (a c : Outcome). SameCalls x y a c) (sym (e ∙ g v x)) (sym (f ∙ g w y)) C
 
 follow-calls : (p : List ℕ) (k m : ℕ) (s : State) (x q : List ℕ) (i b : ℕ) (v : State) (y : List ℕ) (lent : State) (source expansion : Outcome)
     → source ≡ runOutcome p k m s x → expansion ≡ runOutcome q i b v y → Followable p k m s x q i b v y lent → FollowingCalls p b source expansion
 follow-calls p k m s x q i b v y lent source expansion e f W =
-    let B : ℕ = span (lines p) m k s in
+    let B : ℕ = span neighbours (lines p) m k s in
     let room : rowWidth * B ≤ length y = subst (λ (c : ℕ). rowWidth * c ≤ length y) (W .isSpan) (W .listingRoom) in
     let C = source-followed p (W .written) (W .count) (W .expanded) s v (W .imaged) k m x y (W .room) room in
-    let g : runOutcome q i b v y ≡ runOutcome (listing (W .written) (W .count)) (start (lines p) k) B v y =
-    ap₂ (λ (a : List ℕ) (j : ℕ). runOutcome a j b v y) (W .isListing) (W .isStart) ∙ ap (λ (c : ℕ). runOutcome (listing (W .written) (W .count)) (start (lines p) k) c v y) (W .isSpan) in
+    let g : runOutcome q i b v y ≡ runOutcome (listing (W .written) (W .count)) (start neighbours (lines p) k) B v y =
+    ap₂ (λ (a : List ℕ) (j : ℕ). runOutcome a j b v y) (W .isListing) (W .isStart) ∙ ap (λ (c : ℕ). runOutcome (listing (W .written) (W .count)) (start neighbours (lines p) k) c v y) (W .isSpan) in
     subst (λ (c : ℕ). FollowingCalls p c source expansion) (sym (W .isSpan))
     (subst₂ (λ (a c : Outcome). FollowingCalls p B a c) (sym e) (sym (f ∙ g)) C)
 

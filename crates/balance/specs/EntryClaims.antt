@@ -5,6 +5,7 @@ use mathlib.Core.Path.{_≡_}
 use mathlib.Core.List.{List, [], _∷_}
 use Prim.Native.Nat.{ℕ, _*_, _≤_}
 use lib.ListN.{length, take}
+use Rattle.model.specs.Layouts.{neighbours}
 use Rattle.model.specs.Limits.{stateSize, lineWidth, rowWidth}
 use Rattle.model.specs.Answers.{done, counted, Outcome, outcome, atFront}
 use Rattle.model.specs.Places.{State}
@@ -41,7 +42,7 @@ pub record SameCalls (x y : List ℕ) (one other : Outcome) : Type 0 where
 abbrev pub EqualTraceStores : Type 0
 EqualTraceStores = (p e : List ℕ) (n : ℕ) → Expanded p e n → (s t v w : State) → Imaged s v → Imaged t w → SamePublic s t
     → (k b : ℕ) (x y : List ℕ) → rowWidth * b ≤ length x → rowWidth * b ≤ length y
-    → SameCalls x y (runOutcome (listing e n) (start (lines p) k) b v x) (runOutcome (listing e n) (start (lines p) k) b w y)
+    → SameCalls x y (runOutcome (listing e n) (start neighbours (lines p) k) b v x) (runOutcome (listing e n) (start neighbours (lines p) k) b w y)
 
 -- (b) a call of `run` on the source and its bit state for m steps, and one on what `expand` and `to_image` wrote for the lengths of the
 -- parts of the lines done: the expansion stands at the start of the line where the source stands, and `from_image` of its state gives the
@@ -56,14 +57,14 @@ pub record FollowingCalls (p : List ℕ) (n : ℕ) (source expansion : Outcome) 
   pub state : State
   pub traceExpanded : List ℕ
   pub sourceCall : source ≡ outcome (done (ending ∷ counter ∷ steps ∷ [])) (bits ∷ trace ∷ [])
-  pub expansionCall : expansion ≡ outcome (done (endingExpanded ∷ start (lines p) counter ∷ n ∷ [])) (state ∷ traceExpanded ∷ [])
-  pub image : ButScratch state (image bits)
+  pub expansionCall : expansion ≡ outcome (done (endingExpanded ∷ start neighbours (lines p) counter ∷ n ∷ [])) (state ∷ traceExpanded ∷ [])
+  pub image : ButScratch state (image neighbours bits)
   pub back : (lent : State) → length lent ≡ stateSize → fromImageOutcome state lent ≡ outcome (counted stateSize) (bits ∷ [])
 
 abbrev pub SourceFollowed : Type 0
 SourceFollowed = (p e : List ℕ) (n : ℕ) → Expanded p e n → (s v : State) → Imaged s v
-    → (k m : ℕ) (x y : List ℕ) → rowWidth * m ≤ length x → rowWidth * span (lines p) m k s ≤ length y
-    → FollowingCalls p (span (lines p) m k s) (runOutcome p k m s x) (runOutcome (listing e n) (start (lines p) k) (span (lines p) m k s) v y)
+    → (k m : ℕ) (x y : List ℕ) → rowWidth * m ≤ length x → rowWidth * span neighbours (lines p) m k s ≤ length y
+    → FollowingCalls p (span neighbours (lines p) m k s) (runOutcome p k m s x) (runOutcome (listing e n) (start neighbours (lines p) k) (span neighbours (lines p) m k s) v y)
 
 -- ---- what a caller of `twin_runs` and of `follow` has in hand
 
@@ -77,7 +78,7 @@ pub record Twin (q : List ℕ) (i b : ℕ) (v w : State) (x y : List ℕ) : Type
   pub otherBits : State
   pub expanded : Expanded program written count
   pub isListing : q ≡ listing written count
-  pub isStart : i ≡ start (lines program) line
+  pub isStart : i ≡ start neighbours (lines program) line
   pub imaged : Imaged bits v
   pub otherImaged : Imaged otherBits w
   pub same : SamePublic bits otherBits
@@ -91,8 +92,8 @@ pub record Followable (p : List ℕ) (k m : ℕ) (s : State) (x : List ℕ) (q :
   pub count : ℕ
   pub expanded : Expanded p written count
   pub isListing : q ≡ listing written count
-  pub isStart : i ≡ start (lines p) k
-  pub isSpan : b ≡ span (lines p) m k s
+  pub isStart : i ≡ start neighbours (lines p) k
+  pub isSpan : b ≡ span neighbours (lines p) m k s
   pub imaged : Imaged s v
   pub room : rowWidth * m ≤ length x
   pub listingRoom : rowWidth * b ≤ length y

@@ -7,6 +7,7 @@ ghost use mathlib.Core.List.{map};
 ghost use Prim.Native.Nat.{_%_, _≤_};
 ghost use lib.ListN.{getD};
 ghost use Rattle.model.specs.Answers.{report};
+ghost use Rattle.model.specs.Layouts.{neighbours};
 ghost use Rattle.model.specs.Code.{code};
 ghost use Rattle.model.specs.Places.{kind};
 ghost use Rattle.model.specs.Lines.{filled, fills, isLiteral};
@@ -17,6 +18,7 @@ ghost use Rattle.coding.specs.Fields.{numbersAt, bitOf, shapeOf, inRange
 use model::Answer;
 use model::Kind;
 use model::LINE_WIDTH;
+use model::Layout;
 use model::Line;
 use model::MAX_LINES;
 use model::Mark;
@@ -402,9 +404,23 @@ pub fn kind_at(i: usize) -> Kind
     Kind::Neither
 }
 
-// Bit 1 is 01, bit 0 is 10.
-pub fn code_of(bit: u8) -> u8
-    ensures { λ r. ⌜ r ≡ code bit ⌝ }
+// The layout of neighbouring bits, the lowest two.
+pub fn neighbours() -> Layout
+    ensures { λ r. ⌜ r ≡ neighbours ⌝ }
 {
-    if bit == 0 { 2 } else { 1 }
+    Layout {
+        one: 1,
+        zero: 2,
+        mask: 3,
+        spaced: false,
+        orr: 16,
+        xor: 32,
+    }
+}
+
+// The code of a bit.
+pub fn code_of(layout: Layout, bit: u8) -> u8
+    ensures { λ r. ⌜ r ≡ code layout bit ⌝ }
+{
+    if bit == 0 { layout.zero } else { layout.one }
 }

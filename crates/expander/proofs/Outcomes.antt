@@ -6,11 +6,13 @@ use Prim.Native.Nat.{ℕ, _+_, _*_, _≤_, _<_}
 use native.Mathlib.Omega.{arith}
 use borrow.Author.Tests.{lt-ltb, le-ltb}
 use lib.ListN.{length, getD}
+use Rattle.model.specs.declared.Layout.{Layout}
+use Rattle.model.specs.Layouts.{Known}
 use Rattle.model.specs.declared.Answer.{Answer}
 use Rattle.model.specs.declared.Answer.the-variants.{Count}
 use Rattle.model.specs.Answers.{report, outcome, counted, refused}
 use Rattle.model.specs.Stored.{codes, lineCount, lines, programCheck}
-use Rattle.model.specs.Expansion.{expandOutcome, start, joined, expand, written}
+use Rattle.model.specs.Expansion.{expansionIn, start, joined, expand, written}
 use Rattle.model.specs.Limits.{maxAccepted, longest}
 use Rattle.model.specs.Marks.{marksOf, markCheck, Accepted}
 use Rattle.model.proofs.StoredLaws.{length-lines, codes-length}
@@ -37,51 +39,52 @@ check-goes-on p a r n e q w = rw (count-told q e) w
 pub accepted-few : (p : List ℕ) → Accepted (lines p) → lineCount p ≤ maxAccepted
 accepted-few p A = omega (arith, accepted-right (lines p) A .few, length-lines p)
 
-module _ (p starts out : List ℕ) (A : Accepted (lines p)) (S : Starts starts (lines p) (lineCount p)) where
-  whole-length : length (expand (lines p)) ≡ start (lines p) (lineCount p)
-  whole-length = expand-length (lines p) (lineCount p) (sym (length-lines p))
+module _ (L : Layout) (K : Known L) (p starts out : List ℕ) (A : Accepted (lines p)) (S : Starts L starts (lines p) (lineCount p)) where
+  whole-length : length (expand L (lines p)) ≡ start L (lines p) (lineCount p)
+  whole-length = expand-length L (lines p) (lineCount p) (sym (length-lines p))
 
-  same-expansion : joined (lookedUp starts) (lines p) ≡ expand (lines p)
+  same-expansion : joined L (lookedUp starts) (lines p) ≡ expand L (lines p)
   unfolding expand
   same-expansion =
-      joined-same (lookedUp starts) (start (lines p)) (length (lines p))
-      (λ k h. starts-found starts (lines p) (lineCount p) (accepted-few p A) S k (omega (arith, length-lines p))) (lines p) (accepted-right (lines p) A .right)
+      joined-same L (lookedUp starts) (start L (lines p)) (length (lines p))
+      (λ k h. starts-found L starts (lines p) (lineCount p) (accepted-few p A) S k (omega (arith, length-lines p))) (lines p) (accepted-right (lines p) A .right)
 
   -- the last start, which is the length of the expansion
-  pub total-is : getD starts (lineCount p) 0 ≡ start (lines p) (lineCount p)
-  total-is = starts-last starts (lines p) (lineCount p) S
+  pub total-is : getD starts (lineCount p) 0 ≡ start L (lines p) (lineCount p)
+  total-is = starts-last L starts (lines p) (lineCount p) S
 
   pub total-few : getD starts (lineCount p) 0 ≤ longest * maxAccepted
-  total-few = omega (arith, total-is, whole-length, expansion-most (lines p) A)
+  total-few = omega (arith, total-is, whole-length, expansion-most L K (lines p) A)
 
-  pub no-room : lineCount out < getD starts (lineCount p) 0 → outcome (refused 17 0) (out ∷ []) ≡ written (expand (lines p)) out
+  pub no-room : lineCount out < getD starts (lineCount p) 0 → outcome (refused 17 0) (out ∷ []) ≡ written (expand L (lines p)) out
   unfolding written
-  no-room h = rw (lt-ltb (lineCount out) (length (expand (lines p))) (omega (arith, total-is, whole-length)))
+  no-room h = rw (lt-ltb (lineCount out) (length (expand L (lines p))) (omega (arith, total-is, whole-length)))
 
-  pub all-written : (o : List ℕ) → getD starts (lineCount p) 0 ≤ lineCount out → o ≡ put out 0 (joined (lookedUp starts) (lines p))
-      → outcome (counted (getD starts (lineCount p) 0)) (o ∷ []) ≡ written (expand (lines p)) out
+  pub all-written : (o : List ℕ) → getD starts (lineCount p) 0 ≤ lineCount out → o ≡ put out 0 (joined L (lookedUp starts) (lines p))
+      → outcome (counted (getD starts (lineCount p) 0)) (o ∷ []) ≡ written (expand L (lines p)) out
   unfolding written put
   all-written o h e =
-      let q : 6 * (0 + length (expand (lines p))) ≡ length (flatMap codes (expand (lines p))) = omega (arith, codes-length (expand (lines p))) in
+      let q : 6 * (0 + length (expand L (lines p))) ≡ length (flatMap codes (expand L (lines p))) = omega (arith, codes-length (expand L (lines p))) in
       rw (
         e,
         same-expansion,
-        stored-correct (expand (lines p)) (expansion-correct (lines p) A),
+        stored-correct (expand L (lines p)) (expansion-correct L K (lines p) A),
         q,
-        le-ltb (lineCount out) (length (expand (lines p))) (omega (arith, total-is, whole-length)),
+        le-ltb (lineCount out) (length (expand L (lines p))) (omega (arith, total-is, whole-length)),
         total-is ∙ sym whole-length,
       )
 
 -- ---- the expansion of any stored program
 
-pub expand-stops : (p out : List ℕ) (a : Answer) → NoCount a → report a ≡ markCheck p → outcome (report a) (out ∷ []) ≡ expandOutcome p out
-unfolding expandOutcome
-expand-stops p out a k e = handed-on a k (mark-answers p) e (out ∷ []) _
+module _ (L : Layout) (p out : List ℕ) where
+  pub expand-stops : (a : Answer) → NoCount a → report a ≡ markCheck p → outcome (report a) (out ∷ []) ≡ expansionIn L p out
+  unfolding expansionIn
+  expand-stops a k e = handed-on a k (mark-answers p) e (out ∷ []) _
 
-pub expand-goes-on : (p out o : List ℕ) (a r : Answer) (n : ℕ) → report a ≡ markCheck p → a ≡ Count n → outcome (report r) (o ∷ []) ≡ written (expand (lines p)) out
-    → outcome (report r) (o ∷ []) ≡ expandOutcome p out
-unfolding expandOutcome written
-expand-goes-on p out o a r n e q w = rw (count-told q e) w
+  pub expand-goes-on : (o : List ℕ) (a r : Answer) (n : ℕ) → report a ≡ markCheck p → a ≡ Count n → outcome (report r) (o ∷ []) ≡ written (expand L (lines p)) out
+      → outcome (report r) (o ∷ []) ≡ expansionIn L p out
+  unfolding expansionIn written
+  expand-goes-on o a r n e q w = rw (count-told q e) w
 
 pub accepted-by : (p : List ℕ) (a : Answer) (n : ℕ) → report a ≡ markCheck p → a ≡ Count n → Accepted (lines p)
 accepted-by p a n e q = mark-accepted p n (count-told q e)

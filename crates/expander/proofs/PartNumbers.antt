@@ -1,13 +1,14 @@
 -- The numbers that are written: of a line, of a register, of a literal's code; and what a mark's number tells.
 -- Assumes nothing.
-use mathlib.Core.Path.{_≡_, refl, sym, ap}
+use mathlib.Core.Path.{_≡_, refl, sym}
 use mathlib.Core.Bool.{true}
 use mathlib.Core.List.{[], _∷_}
 use Prim.Native.Nat.{ℕ, _+_, _-_, _*_, _%_, _≤_, _<_}
 use native.Mathlib.Nat.{mod-eq-of-lt}
 use native.Mathlib.Omega.{arith}
-use lib.Dec.{ltb, lt→ltb}
+use lib.Dec.{ltb, lt→ltb, le→leb}
 use borrow.Author.Tests.{eq-eqb, ne-eqb}
+use Rattle.model.specs.declared.Layout.{Layout}
 use Rattle.model.specs.declared.Mark.{Mark}
 use Rattle.model.specs.declared.Mark.the-variants.{Unmarked, Marked}
 use Rattle.model.specs.declared.Opcode.{Opcode}
@@ -46,16 +47,20 @@ pub table-number : (n t : ℕ) → n < 32 → t < 256 → operandOf (tables + 25
 unfolding operandRight
 table-number n t g h = operand-there true (TableCell n t) (both-and (ltb n 32) (ltb t 256) (lt→ltb n 32 g) (lt→ltb t 256 h)) .same
 
--- ---- a literal's code
+-- ---- a literal, and its code
 
-pub coded-literal : (n x : ℕ) → literals ≤ n → n < registers → x ≡ code (n - literals) → x < 256 → operandOf (literals + x) ≡ coded (operandOf n)
-unfolding coded
-coded-literal n x g h e l = rw (literal n g h, ← e, literal (literals + x) (omega arith) (omega arith)) (ap Literal (omega arith))
+pub literal-number : (n : ℕ) → n < 256 → operandOf (literals + n) ≡ Literal n
+unfolding operandRight
+literal-number n h = operand-there true (Literal n) (le→leb n 255 (omega arith)) .same
 
-pub coded-other : (n : ℕ) → registers ≤ n → operandOf n ≡ coded (operandOf n)
+pub coded-literal : (L : Layout) (n x r : ℕ) → literals ≤ n → n < registers → x ≡ code L (n - literals) → operandOf r ≡ Literal x → operandOf r ≡ coded L (operandOf n)
 unfolding coded
-coded-other n h =
-    by-form n (λ o. o ≡ coded o) (λ l. absurd (omega arith)) (λ g l. absurd (omega arith)) (λ g l. refl) (λ g l. refl) (λ g l. refl) (λ g l. refl)
+coded-literal L n x r g h e l = rw (literal n g h, ← e) l
+
+pub coded-other : (L : Layout) (n : ℕ) → registers ≤ n → operandOf n ≡ coded L (operandOf n)
+unfolding coded
+coded-other L n h =
+    by-form n (λ o. o ≡ coded L o) (λ l. absurd (omega arith)) (λ g l. absurd (omega arith)) (λ g l. refl) (λ g l. refl) (λ g l. refl) (λ g l. refl)
     (λ g. refl)
 
 -- ---- a mark's number

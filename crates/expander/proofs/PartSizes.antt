@@ -4,6 +4,7 @@ use mathlib.Core.Path.{_≡_, sym, ap}
 use mathlib.Core.List.{List, [], _∷_}
 use Prim.Native.Nat.{ℕ}
 use lib.ListN.{length, getD}
+use Rattle.model.specs.declared.Layout.{Layout}
 use Rattle.model.specs.declared.Mark.the-variants.{Unmarked, Marked}
 use Rattle.model.specs.declared.Opcode.{Opcode}
 use Rattle.model.specs.declared.Operand.{Operand}
@@ -14,29 +15,29 @@ use Rattle.coding.specs.Fields.{numbersAt}
 use Rattle.expander.proofs.PartNumbers.{unmarked, marked}
 
 -- an opcode's arm
-pub at-opcode : (o o′ : Opcode) (n : ℕ) (d a b : Operand) → o ≡ o′ → n ≡ length (macro o′ d a b) → n ≡ length (macro o d a b)
-at-opcode o o′ n d a b e h = rw e h
+pub at-opcode : (L : Layout) (o o′ : Opcode) (n : ℕ) (d a b : Operand) → o ≡ o′ → n ≡ length (macro L o′ d a b) → n ≡ length (macro L o d a b)
+at-opcode L o o′ n d a b e h = rw e h
 
-module _ (l : Line) (f : ℕ → ℕ) where
-  pub plain-part : l .mark ≡ Unmarked → part f l ≡ retarget f l ∷ []
+module _ (L : Layout) (l : Line) (f : ℕ → ℕ) where
+  pub plain-part : l .mark ≡ Unmarked → part L f l ≡ retarget f l ∷ []
   unfolding partOf
   plain-part e = rw e
 
-  marked-part : l .mark ≡ Marked → part f l ≡ macro (l .opcode) (l .destination) (coded (l .first)) (coded (l .second))
+  marked-part : l .mark ≡ Marked → part L f l ≡ macro L (l .opcode) (l .destination) (coded L (l .first)) (coded L (l .second))
   unfolding partOf
   marked-part e = rw e
 
 -- a program's line, from its six numbers
-module _ (p n : List ℕ) (i : ℕ) (e : n ≡ numbersAt p i) where
-  pub plain-length : getD n 0 0 ≡ 0 → 1 ≡ size (lineAt p i)
+module _ (L : Layout) (p n : List ℕ) (i : ℕ) (e : n ≡ numbersAt p i) where
+  pub plain-length : getD n 0 0 ≡ 0 → 1 ≡ size L (lineAt p i)
   unfolding size
-  plain-length z = sym (ap length (plain-part (lineAt p i) (λ t. t) (unmarked _ (rw e at z))))
+  plain-length z = sym (ap length (plain-part L (lineAt p i) (λ t. t) (unmarked _ (rw e at z))))
 
   -- a marked one, whose arguments are coded
-  module _ (x : Opcode) (a b : Operand) (q : x ≡ opcodeOf (getD n 1 0)) (z : getD n 0 0 ≡ 0 → ⊥) (ea : a ≡ coded (operandOf (getD n 3 0))) (eb : b ≡ coded (operandOf (getD n 4 0))) where
-    pub marked-is : (f : ℕ → ℕ) → part f (lineAt p i) ≡ macro x (operandOf (getD n 2 0)) a b
-    marked-is f = rw (ea, eb, q, e) (marked-part (lineAt p i) f (marked _ (rw e at z)))
+  module _ (x : Opcode) (a b : Operand) (q : x ≡ opcodeOf (getD n 1 0)) (z : getD n 0 0 ≡ 0 → ⊥) (ea : a ≡ coded L (operandOf (getD n 3 0))) (eb : b ≡ coded L (operandOf (getD n 4 0))) where
+    pub marked-is : (f : ℕ → ℕ) → part L f (lineAt p i) ≡ macro L x (operandOf (getD n 2 0)) a b
+    marked-is f = rw (ea, eb, q, e) (marked-part L (lineAt p i) f (marked _ (rw e at z)))
 
-    pub marked-length : length (macro x (operandOf (getD n 2 0)) a b) ≡ size (lineAt p i)
+    pub marked-length : length (macro L x (operandOf (getD n 2 0)) a b) ≡ size L (lineAt p i)
     unfolding size
     marked-length = sym (ap length (marked-is (λ t. t)))

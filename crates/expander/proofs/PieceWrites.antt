@@ -1,17 +1,19 @@
 -- The pieces written line by line, an opcode's macro by its arm, and a line's part: each is what the definition lists.
 -- Assumes nothing.
 use mathlib.Core.Path.{_≡_}
+use mathlib.Core.Bool.{true, false}
 use mathlib.Core.List.{List, [], _∷_}
 use Prim.Native.Nat.{ℕ, _+_, _*_, _≤_, _<_}
 use native.Mathlib.Omega.{arith}
 use lib.ListN.{length, getD}
+use Rattle.model.specs.declared.Layout.{Layout}
 use Rattle.model.specs.declared.Mark.the-variants.{Unmarked}
 use Rattle.model.specs.declared.Opcode.{Opcode}
 use Rattle.model.specs.declared.Opcode.the-variants.{And, Orr, Xor, Lsl}
 use Rattle.model.specs.declared.Operand.{Operand}
-use Rattle.model.specs.declared.Operand.the-variants.{TableCell}
+use Rattle.model.specs.declared.Operand.the-variants.{Literal, TableCell}
 use Rattle.model.specs.Stored.{registers, opcodeOf, operandOf, targetOf, lineAt}
-use Rattle.model.specs.Expansion.{coded, markedLine, move, precharged, load, scale, combine, fetch, flip, writeBack, macro, newTarget, part}
+use Rattle.model.specs.Expansion.{coded, markedLine, move, precharged, load, shifts, scale, combine, fetch, flip, writeBack, macro, newTarget, part}
 use Rattle.coding.specs.Fields.{numbersAt}
 use Rattle.expander.specs.Writes.{lineWith, Wrote}
 use Rattle.expander.proofs.StoreWrites.{wrote-none, wrote-then}
@@ -33,48 +35,55 @@ module _ {out o : List ℕ} {at k : ℕ} where
   unfolding fetch operandOf
   fetch-wrote t x e w = rw (← e) w
 
-  pub flip-wrote : Wrote out o at k (markedLine Xor (operandOf 258) (operandOf 258) (operandOf 4) ∷ []) → Wrote out o at k flip
+  pub flip-wrote : (L : Layout) (x : Operand) → x ≡ Literal (L .mask) → Wrote out o at k (markedLine Xor (operandOf 258) (operandOf 258) x ∷ []) → Wrote out o at k (flip L)
   unfolding flip operandOf
-  flip-wrote w = w
+  flip-wrote L x e w = rw (← e) w
 
 module _ {out o o′ : List ℕ} {at k m : ℕ} where
   pub precharged-wrote : (d a : Operand) → Wrote out o at k (move d (operandOf registers) ∷ []) → Wrote o o′ k m (move d a ∷ []) → Wrote out o′ at m (precharged d a)
   precharged-wrote d a w v = rw (← register-number 0 (omega arith)) (wrote-then w v)
 
-  pub combine-wrote : Wrote out o at k (markedLine And (operandOf 259) (operandOf 259) (operandOf 4) ∷ [])
-      → Wrote o o′ k m (markedLine Orr (operandOf 258) (operandOf 258) (operandOf 259) ∷ []) → Wrote out o′ at m combine
-  unfolding combine operandOf
-  combine-wrote w v = wrote-then w v
+  module _ (L : Layout) (x : Operand) (e : x ≡ Literal (L .mask)) where
+    pub combine-wrote : Wrote out o at k (markedLine And (operandOf 259) (operandOf 259) x ∷ [])
+        → Wrote o o′ k m (markedLine Orr (operandOf 258) (operandOf 258) (operandOf 259) ∷ []) → Wrote out o′ at m (combine L)
+    unfolding combine operandOf
+    combine-wrote w v = rw (← e) (wrote-then w v)
 
-  pub scale-wrote : {o″ : List ℕ} {l : ℕ} → Wrote out o at k (markedLine And (operandOf 258) (operandOf 258) (operandOf 4) ∷ [])
-      → Wrote o o′ k m (markedLine Lsl (operandOf 258) (operandOf 258) (operandOf 2) ∷ [])
-      → Wrote o′ o″ m l (markedLine Lsl (operandOf 258) (operandOf 258) (operandOf 2) ∷ []) → Wrote out o″ at l scale
-  unfolding scale operandOf
-  scale-wrote w v u = wrote-then w (wrote-then v u)
+    -- by whether the bits are spaced
+    pub spaced-wrote : L .spaced ≡ true → Wrote out o at k (markedLine And (operandOf 258) (operandOf 258) x ∷ [])
+        → Wrote o o′ k m (markedLine Lsl (operandOf 258) (operandOf 258) (operandOf 2) ∷ []) → Wrote out o′ at m (scale L)
+    unfolding scale shifts operandOf
+    spaced-wrote q w v = rw (← e, q) (wrote-then w v)
+
+    pub near-wrote : {o″ : List ℕ} {l : ℕ} → L .spaced ≡ false → Wrote out o at k (markedLine And (operandOf 258) (operandOf 258) x ∷ [])
+        → Wrote o o′ k m (markedLine Lsl (operandOf 258) (operandOf 258) (operandOf 2) ∷ [])
+        → Wrote o′ o″ m l (markedLine Lsl (operandOf 258) (operandOf 258) (operandOf 2) ∷ []) → Wrote out o″ at l (scale L)
+    unfolding scale shifts operandOf
+    near-wrote q w v u = rw (← e, q) (wrote-then w (wrote-then v u))
 
 -- ---- an opcode's macro, by its arm, and the room for it; an opcode without one
 
-module _ (x y : Opcode) (d a b : Operand) (e : x ≡ y) where
-  pub macro-wrote : {out o : List ℕ} {at k : ℕ} → Wrote out o at k (macro y d a b) → Wrote out o at k (macro x d a b)
+module _ (L : Layout) (x y : Opcode) (d a b : Operand) (e : x ≡ y) where
+  pub macro-wrote : {out o : List ℕ} {at k : ℕ} → Wrote out o at k (macro L y d a b) → Wrote out o at k (macro L x d a b)
   macro-wrote h = rw e h
 
-  pub macro-room : (out : List ℕ) (at : ℕ) → 6 * (at + length (macro x d a b)) ≤ length out → 6 * (at + length (macro y d a b)) ≤ length out
+  pub macro-room : (out : List ℕ) (at : ℕ) → 6 * (at + length (macro L x d a b)) ≤ length out → 6 * (at + length (macro L y d a b)) ≤ length out
   macro-room out at h = rw (← e) h
 
-  pub nothing-wrote : (out : List ℕ) (at : ℕ) → macro y d a b ≡ [] → 6 * (at + length (macro x d a b)) ≤ length out → Wrote out out at at (macro x d a b)
+  pub nothing-wrote : (out : List ℕ) (at : ℕ) → macro L y d a b ≡ [] → 6 * (at + length (macro L x d a b)) ≤ length out → Wrote out out at at (macro L x d a b)
   nothing-wrote out at z h = rw (e, z) (wrote-none out at (omega (arith, rw (e, z) at h)))
 
 -- ---- a line's part, by its mark
 
-module _ (f : ℕ → ℕ) (p n : List ℕ) (i : ℕ) (x : Opcode) (e : n ≡ numbersAt p i) (q : x ≡ opcodeOf (getD n 1 0)) where
+module _ (L : Layout) (f : ℕ → ℕ) (p n : List ℕ) (i : ℕ) (x : Opcode) (e : n ≡ numbersAt p i) (q : x ≡ opcodeOf (getD n 1 0)) where
   pub plain-wrote : {out o : List ℕ} {at k : ℕ} → getD n 0 0 ≡ 0
-      → Wrote out o at k (lineWith Unmarked x (getD n 2 0) (getD n 3 0) (getD n 4 0) (newTarget f (targetOf (getD n 5 0))) ∷ []) → Wrote out o at k (part f (lineAt p i))
+      → Wrote out o at k (lineWith Unmarked x (getD n 2 0) (getD n 3 0) (getD n 4 0) (newTarget f (targetOf (getD n 5 0))) ∷ []) → Wrote out o at k (part L f (lineAt p i))
   plain-wrote z w =
       let l = lineAt p i in
       let m : l .mark ≡ Unmarked = unmarked _ (rw e at z) in
       let u = rw (q, e) at w in
-      rw (plain-part l f m, m) u
+      rw (plain-part L l f m, m) u
 
-  pub marked-wrote : {out o : List ℕ} {at k : ℕ} (a b : Operand) → (getD n 0 0 ≡ 0 → ⊥) → a ≡ coded (operandOf (getD n 3 0)) → b ≡ coded (operandOf (getD n 4 0))
-      → Wrote out o at k (macro x (operandOf (getD n 2 0)) a b) → Wrote out o at k (part f (lineAt p i))
-  marked-wrote a b z ea eb w = rw (marked-is p n i e x a b q z ea eb f) w
+  pub marked-wrote : {out o : List ℕ} {at k : ℕ} (a b : Operand) → (getD n 0 0 ≡ 0 → ⊥) → a ≡ coded L (operandOf (getD n 3 0)) → b ≡ coded L (operandOf (getD n 4 0))
+      → Wrote out o at k (macro L x (operandOf (getD n 2 0)) a b) → Wrote out o at k (part L f (lineAt p i))
+  marked-wrote a b z ea eb w = rw (marked-is L p n i e x a b q z ea eb f) w

@@ -6,6 +6,7 @@ use mathlib.Core.List.{List}
 use Prim.Native.Nat.{ℕ, _+_, _≤_}
 use lib.Dec.{ltb}
 use lib.ListN.{getD}
+use Rattle.model.specs.declared.Layout.{Layout}
 use Rattle.model.specs.declared.Line.{Line}
 use Rattle.model.specs.Limits.{maxAccepted}
 use Rattle.model.specs.Expansion.{start}
@@ -15,5 +16,5 @@ abbrev pub lookedUp : List ℕ → ℕ → ℕ
 lookedUp starts t = cond (ltb t (maxAccepted + 1)) (getD starts t 0) 0
 
 -- a list that holds the starts of the first n lines and of the one after them
-unfoldable pub Starts : List ℕ → List Line → ℕ → Type 0
-Starts starts p n = (t : ℕ) → t ≤ n → getD starts t 0 ≡ start p t
+unfoldable pub Starts : Layout → List ℕ → List Line → ℕ → Type 0
+Starts L starts p n = (t : ℕ) → t ≤ n → getD starts t 0 ≡ start L p t

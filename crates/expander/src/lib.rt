@@ -4,11 +4,13 @@
 ghost use mathlib.Core.Path.{_≡_};
 ghost use mathlib.Core.List.{[], _∷_};
 ghost use Rattle.model.specs.Answers.{report, outcome};
+ghost use Rattle.model.specs.Layouts.{Known};
 ghost use Rattle.model.specs.Stored.{lines};
 ghost use Rattle.model.specs.Marks.{markCheck, Accepted};
-ghost use Rattle.model.specs.Expansion.{expandOutcome, expand as expansionOf, written};
+ghost use Rattle.model.specs.Expansion.{expansionIn, expandOutcome, expand as expansionOf, written};
 use model::Answer;
 use model::LINE_WIDTH;
+use model::Layout;
 use starts::STARTS;
 
 mod macros;
@@ -28,13 +30,13 @@ pub fn check(program: &[u16]) -> Answer
 }
 
 // The expansion of an accepted program: its count of lines, or 17 with nothing touched.
-fn write_expansion(program: &[u16], out: &mut [u16]) -> Answer
-    requires { ⌜ Accepted (lines (now program)) ⌝ }
-    ensures { λ r. ⌜ outcome (report r) (now (out .exit) ∷ []) ≡ written (expansionOf (lines (now (program .entry)))) (now (out .entry)) ⌝ }
+fn write_expansion(layout: Layout, program: &[u16], out: &mut [u16]) -> Answer
+    requires { ⌜ Known layout × Accepted (lines (now program)) ⌝ }
+    ensures { λ r. ⌜ outcome (report r) (now (out .exit) ∷ []) ≡ written (expansionOf layout (lines (now (program .entry)))) (now (out .entry)) ⌝ }
 {
     let count = program.len() / LINE_WIDTH;
     let mut starts = [0u16; STARTS];
-    starts::fill_starts(program, &mut starts);
+    starts::fill_starts(layout, program, &mut starts);
     let total = starts[count];
     if out.len() / LINE_WIDTH < (total as usize) {
         return Answer::Refused {
@@ -42,19 +44,20 @@ fn write_expansion(program: &[u16], out: &mut [u16]) -> Answer
             line: 0,
         };
     }
-    writing::put_parts(program, &starts, out);
+    writing::put_parts(layout, program, &starts, out);
     Answer::Count(total as u32)
 }
 
 // The body of `expand`: the mark check's refusal, or the expansion of what it accepts.
-fn make_expansion(program: &[u16], out: &mut [u16]) -> Answer
-    ensures { λ r. ⌜ outcome (report r) (now (out .exit) ∷ []) ≡ expandOutcome (now (program .entry)) (now (out .entry)) ⌝ }
+fn make_expansion(layout: Layout, program: &[u16], out: &mut [u16]) -> Answer
+    requires { ⌜ Known layout ⌝ }
+    ensures { λ r. ⌜ outcome (report r) (now (out .exit) ∷ []) ≡ expansionIn layout (now (program .entry)) (now (out .entry)) ⌝ }
 {
     let checked = check(program);
     let Answer::Count(_) = checked else {
         return checked;
     };
-    write_expansion(program, out)
+    write_expansion(layout, program, out)
 }
 
 // The expansion of a stored program at the front of a lent store: its count of lines, or the mark check's refusal, then 17. A refusal
@@ -62,5 +65,5 @@ fn make_expansion(program: &[u16], out: &mut [u16]) -> Answer
 pub fn expand(program: &[u16], out: &mut [u16]) -> Answer
     ensures { λ r. ⌜ outcome (report r) (now (out .exit) ∷ []) ≡ expandOutcome (now (program .entry)) (now (out .entry)) ⌝ }
 {
-    make_expansion(program, out)
+    make_expansion(coding::neighbours(), program, out)
 }

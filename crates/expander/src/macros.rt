@@ -10,10 +10,11 @@ ghost use Rattle.model.specs.Stored.{targetCode, operandOf, lineAt};
 ghost use Rattle.model.specs.Expansion.{coded, markedLine, move, precharged, load, scale, combine, fetch, flip, writeBack, lookup, negate, copy, macro, size};
 ghost use Rattle.expander.specs.Writes.{lineWith, Wrote};
 use model::LINE_WIDTH;
+use model::Layout;
 use model::Mark;
 use model::Opcode;
 
-// The numbers of r0 to r2, of #1, and of #3, which is both bits of a code.
+// The numbers of r0 to r2 and of #1.
 const R0: u16 = coding::REGISTERS;
 
 const R1: u16 = coding::REGISTERS + 1;
@@ -22,16 +23,14 @@ const R2: u16 = coding::REGISTERS + 2;
 
 const ONE: u16 = coding::LITERALS + 1;
 
-const MASK: u16 = coding::LITERALS + 3;
-
-// Where the three tables begin, counted from cell 256.
-const AND_TABLE: u8 = 0;
-
-const ORR_TABLE: u8 = 16;
-
-const XOR_TABLE: u8 = 32;
-
 // ---- operands
+
+// `#n`
+fn literal(n: u8) -> u16
+    ensures { λ r. ⌜ operandOf r ≡ Operand.Literal n ⌝ }
+{
+    coding::LITERALS + (n as u16)
+}
 
 // `^rn+t`
 fn table_cell(n: u16, t: u8) -> u16
@@ -42,15 +41,15 @@ fn table_cell(n: u16, t: u8) -> u16
 }
 
 // A literal of a marked line, coded.
-pub fn coded(code: u16) -> u16
-    ensures { λ r. ⌜ operandOf r ≡ coded (operandOf code) ⌝ }
+pub fn coded(layout: Layout, code: u16) -> u16
+    ensures { λ r. ⌜ operandOf r ≡ coded layout (operandOf code) ⌝ }
 {
     if code < coding::LITERALS {
         return code;
     }
     if code < coding::REGISTERS {
         let n = code - coding::LITERALS;
-        return coding::LITERALS + (coding::code_of(n as u8) as u16);
+        return literal(coding::code_of(layout, n as u8));
     }
     code
 }
@@ -115,21 +114,25 @@ fn put_load(out: &mut [u16], at: usize, n: u16, a: u16) -> usize
 }
 
 // The first code masked, and shifted to its place in the index.
-fn put_scale(out: &mut [u16], at: usize) -> usize
-    requires { ⌜ 6 * (at + length scale) ≤ length (now out) ⌝ }
-    ensures { λ r. ⌜ Wrote (now (out .entry)) (now (out .exit)) at r scale ⌝ }
+fn put_scale(out: &mut [u16], at: usize, layout: Layout) -> usize
+    requires { ⌜ 6 * (at + length (scale layout)) ≤ length (now out) ⌝ }
+    ensures { λ r. ⌜ Wrote (now (out .entry)) (now (out .exit)) at r (scale layout) ⌝ }
 {
-    let masked = put_marked(out, at, Opcode::And, R1, R1, MASK);
+    let masked = put_marked(out, at, Opcode::And, R1, R1, literal(layout.mask));
     let shifted = put_marked(out, masked, Opcode::Lsl, R1, R1, ONE);
+    let spaced = layout.spaced;
+    if spaced {
+        return shifted;
+    }
     put_marked(out, shifted, Opcode::Lsl, R1, R1, ONE)
 }
 
 // The second code masked, and joined to the first.
-fn put_combine(out: &mut [u16], at: usize) -> usize
-    requires { ⌜ 6 * (at + length combine) ≤ length (now out) ⌝ }
-    ensures { λ r. ⌜ Wrote (now (out .entry)) (now (out .exit)) at r combine ⌝ }
+fn put_combine(out: &mut [u16], at: usize, layout: Layout) -> usize
+    requires { ⌜ 6 * (at + length (combine layout)) ≤ length (now out) ⌝ }
+    ensures { λ r. ⌜ Wrote (now (out .entry)) (now (out .exit)) at r (combine layout) ⌝ }
 {
-    let masked = put_marked(out, at, Opcode::And, R2, R2, MASK);
+    let masked = put_marked(out, at, Opcode::And, R2, R2, literal(layout.mask));
     put_marked(out, masked, Opcode::Orr, R1, R1, R2)
 }
 
@@ -142,11 +145,11 @@ fn put_fetch(out: &mut [u16], at: usize, t: u8) -> usize
 }
 
 // Both bits of the code flipped.
-fn put_flip(out: &mut [u16], at: usize) -> usize
-    requires { ⌜ 6 * (at + length flip) ≤ length (now out) ⌝ }
-    ensures { λ r. ⌜ Wrote (now (out .entry)) (now (out .exit)) at r flip ⌝ }
+fn put_flip(out: &mut [u16], at: usize, layout: Layout) -> usize
+    requires { ⌜ 6 * (at + length (flip layout)) ≤ length (now out) ⌝ }
+    ensures { λ r. ⌜ Wrote (now (out .entry)) (now (out .exit)) at r (flip layout) ⌝ }
 {
-    put_marked(out, at, Opcode::Xor, R1, R1, MASK)
+    put_marked(out, at, Opcode::Xor, R1, R1, literal(layout.mask))
 }
 
 // The destination precharged, and written from register n.
@@ -160,25 +163,25 @@ fn put_write_back(out: &mut [u16], at: usize, n: u16, d: u16) -> usize
 // ---- the macros
 
 // and, orr, xor, by where their table begins.
-fn put_lookup(out: &mut [u16], at: usize, t: u8, d: u16, a: u16, b: u16) -> usize
-    requires { ⌜ 6 * (at + length (lookup t (operandOf d) (operandOf a) (operandOf b))) ≤ length (now out) ⌝ }
-    ensures { λ r. ⌜ Wrote (now (out .entry)) (now (out .exit)) at r (lookup t (operandOf d) (operandOf a) (operandOf b)) ⌝ }
+fn put_lookup(out: &mut [u16], at: usize, layout: Layout, t: u8, d: u16, a: u16, b: u16) -> usize
+    requires { ⌜ 6 * (at + length (lookup layout t (operandOf d) (operandOf a) (operandOf b))) ≤ length (now out) ⌝ }
+    ensures { λ r. ⌜ Wrote (now (out .entry)) (now (out .exit)) at r (lookup layout t (operandOf d) (operandOf a) (operandOf b)) ⌝ }
 {
     let loaded = put_load(out, at, 1, a);
-    let scaled = put_scale(out, loaded);
+    let scaled = put_scale(out, loaded, layout);
     let both = put_load(out, scaled, 2, b);
-    let combined = put_combine(out, both);
+    let combined = put_combine(out, both, layout);
     let fetched = put_fetch(out, combined, t);
     put_write_back(out, fetched, 3, d)
 }
 
 // not
-fn put_negate(out: &mut [u16], at: usize, d: u16, a: u16) -> usize
-    requires { ⌜ 6 * (at + length (negate (operandOf d) (operandOf a))) ≤ length (now out) ⌝ }
-    ensures { λ r. ⌜ Wrote (now (out .entry)) (now (out .exit)) at r (negate (operandOf d) (operandOf a)) ⌝ }
+fn put_negate(out: &mut [u16], at: usize, layout: Layout, d: u16, a: u16) -> usize
+    requires { ⌜ 6 * (at + length (negate layout (operandOf d) (operandOf a))) ≤ length (now out) ⌝ }
+    ensures { λ r. ⌜ Wrote (now (out .entry)) (now (out .exit)) at r (negate layout (operandOf d) (operandOf a)) ⌝ }
 {
     let loaded = put_load(out, at, 1, a);
-    let flipped = put_flip(out, loaded);
+    let flipped = put_flip(out, loaded, layout);
     put_write_back(out, flipped, 1, d)
 }
 
@@ -192,18 +195,26 @@ fn put_copy(out: &mut [u16], at: usize, d: u16, a: u16) -> usize
 }
 
 // The macro of an opcode; those that no marked line of an accepted program has give nothing.
-pub fn put_macro(out: &mut [u16], at: usize, o: Opcode, d: u16, a: u16, b: u16) -> usize
-    requires { ⌜ 6 * (at + length (macro o (operandOf d) (operandOf a) (operandOf b))) ≤ length (now out) ⌝ }
-    ensures { λ r. ⌜ Wrote (now (out .entry)) (now (out .exit)) at r (macro o (operandOf d) (operandOf a) (operandOf b)) ⌝ }
+pub fn put_macro(
+    out: &mut [u16],
+    at: usize,
+    layout: Layout,
+    o: Opcode,
+    d: u16,
+    a: u16,
+    b: u16,
+) -> usize
+    requires { ⌜ 6 * (at + length (macro layout o (operandOf d) (operandOf a) (operandOf b))) ≤ length (now out) ⌝ }
+    ensures { λ r. ⌜ Wrote (now (out .entry)) (now (out .exit)) at r (macro layout o (operandOf d) (operandOf a) (operandOf b)) ⌝ }
 {
     match o {
         Opcode::Nop => at,
         Opcode::Jmp => at,
-        Opcode::Not => put_negate(out, at, d, a),
+        Opcode::Not => put_negate(out, at, layout, d, a),
         Opcode::Mov => put_copy(out, at, d, a),
-        Opcode::And => put_lookup(out, at, AND_TABLE, d, a, b),
-        Opcode::Orr => put_lookup(out, at, ORR_TABLE, d, a, b),
-        Opcode::Xor => put_lookup(out, at, XOR_TABLE, d, a, b),
+        Opcode::And => put_lookup(out, at, layout, 0, d, a, b),
+        Opcode::Orr => put_lookup(out, at, layout, layout.orr, d, a, b),
+        Opcode::Xor => put_lookup(out, at, layout, layout.xor, d, a, b),
         Opcode::Lsl => at,
         Opcode::Lsr => at,
         Opcode::Add => at,
@@ -222,25 +233,33 @@ fn load_size(a: u16) -> u16
     2
 }
 
-// and, orr, xor, whichever their table and destination are: two loads, 3 lines to scale, and 2 each to combine, fetch and write back.
-fn lookup_size(a: u16, b: u16) -> u16
-    ensures { λ r. ⌜ ((t : ℕ) (d : Operand) → r ≡ length (lookup t d (operandOf a) (operandOf b))) ⌝ }
+// The lines that mask the first code and shift it.
+fn scale_size(layout: Layout) -> u16
+    ensures { λ r. ⌜ r ≡ length (scale layout) ⌝ }
 {
-    load_size(a) + 3 + load_size(b) + 6
+    let spaced = layout.spaced;
+    if spaced { 2 } else { 3 }
+}
+
+// and, orr, xor, whichever their table and destination are: the loads, the scaling, and two lines each to combine, fetch and write back.
+fn lookup_size(layout: Layout, a: u16, b: u16) -> u16
+    ensures { λ r. ⌜ ((t : ℕ) (d : Operand) → r ≡ length (lookup layout t d (operandOf a) (operandOf b))) ⌝ }
+{
+    load_size(a) + scale_size(layout) + load_size(b) + 6
 }
 
 // The lines of an opcode's macro with these arguments, whatever its destination is.
-fn macro_size(o: Opcode, a: u16, b: u16) -> u16
-    ensures { λ r. ⌜ ((d : Operand) → r ≡ length (macro o d (operandOf a) (operandOf b))) ⌝ }
+fn macro_size(layout: Layout, o: Opcode, a: u16, b: u16) -> u16
+    ensures { λ r. ⌜ ((d : Operand) → r ≡ length (macro layout o d (operandOf a) (operandOf b))) ⌝ }
 {
     match o {
         Opcode::Nop => 0,
         Opcode::Jmp => 0,
         Opcode::Not => load_size(a) + 3,
         Opcode::Mov => load_size(a) + 2,
-        Opcode::And => lookup_size(a, b),
-        Opcode::Orr => lookup_size(a, b),
-        Opcode::Xor => lookup_size(a, b),
+        Opcode::And => lookup_size(layout, a, b),
+        Opcode::Orr => lookup_size(layout, a, b),
+        Opcode::Xor => lookup_size(layout, a, b),
         Opcode::Lsl => 0,
         Opcode::Lsr => 0,
         Opcode::Add => 0,
@@ -251,12 +270,17 @@ fn macro_size(o: Opcode, a: u16, b: u16) -> u16
 }
 
 // The lines of the part of line i.
-pub fn size_at(program: &[u16], i: usize) -> u16
-    ensures { λ r. ⌜ r ≡ size (lineAt (now (program .entry)) i) ⌝ }
+pub fn size_at(layout: Layout, program: &[u16], i: usize) -> u16
+    ensures { λ r. ⌜ r ≡ size layout (lineAt (now (program .entry)) i) ⌝ }
 {
     let n = coding::numbers_at(program, i);
     if n[0] == 0 {
         return 1;
     }
-    macro_size(coding::opcode_of(n[1]), coded(n[3]), coded(n[4]))
+    macro_size(
+        layout,
+        coding::opcode_of(n[1]),
+        coded(layout, n[3]),
+        coded(layout, n[4]),
+    )
 }

@@ -8,22 +8,23 @@ ghost use Rattle.model.specs.Expansion.{newTarget};
 ghost use Rattle.expander.specs.Starts.{lookedUp, Starts};
 use super::macros;
 use model::LINE_WIDTH;
+use model::Layout;
 use model::MAX_ACCEPTED;
 
 // How many starts there are at most: one for each line, and one for the end.
 pub const STARTS: usize = MAX_ACCEPTED + 1;
 
 // The starts of the lines and of the end.
-pub fn fill_starts(program: &[u16], starts: &mut [u16; STARTS])
+pub fn fill_starts(layout: Layout, program: &[u16], starts: &mut [u16; STARTS])
     requires { ⌜ (lineCount (now program) ≤ maxAccepted) × (length (now starts) ≡ maxAccepted + 1) ⌝ }
-    ensures { λ r. ⌜ Starts (now (starts .exit)) (lines (now (program .entry))) (lineCount (now (program .entry))) ⌝ }
+    ensures { λ r. ⌜ Starts layout (now (starts .exit)) (lines (now (program .entry))) (lineCount (now (program .entry))) ⌝ }
 {
     let count = program.len() / LINE_WIDTH;
     let mut i = 0;
     let mut sum = 0;
     starts[0] = 0;
     while i < count {
-        sum += macros::size_at(program, i);
+        sum += macros::size_at(layout, program, i);
         i += 1;
         starts[i] = sum;
     }

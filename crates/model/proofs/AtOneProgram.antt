@@ -12,6 +12,7 @@ use Rattle.model.specs.declared.Opcode.the-variants.{Not, Mov, And, Orr,
 use Rattle.model.specs.declared.Operand.the-variants.{Empty, Literal, Register}
 use Rattle.model.specs.declared.Target.the-variants.{Empty as NoTarget, Line as ToLine}
 use Rattle.model.specs.declared.Line.{Line}
+use Rattle.model.specs.declared.Layout.{Layout}
 use Rattle.model.specs.Places.{State}
 use Rattle.model.specs.Lines.{correct}
 use Rattle.model.specs.Text.{sameBytes}
@@ -20,6 +21,7 @@ use Rattle.model.specs.Run.{run}
 use Rattle.model.specs.Images.{image}
 use Rattle.model.specs.Expansion.{markedLine, move, load, scale, combine, fetch, flip, writeBack, start, expand}
 use Rattle.model.specs.Marks.{Accepted}
+use Rattle.model.proofs.Finite.{forLayouts}
 
 -- ---- a program with every macro, where the destination is an argument, with a public literal and a target behind a macro
 
@@ -51,13 +53,16 @@ sameRows (x ∷ xs) [] = false
 sameRows (x ∷ xs) (y ∷ ys) = sameBytes x y && sameRows xs ys
 
 -- the trace is that of the bits 0 and 0, and the state past r3 that the expansion ends with is the image of the source's
-abbrev claimed : ℕ → ℕ → Bool
-claimed a b =
-    let x = run (expand small) 1000 (start small 0) (image (bits a b)) in
-    let y = run (expand small) 1000 (start small 0) (image (bits 0 0)) in
+abbrev claimed : Layout → ℕ → ℕ → Bool
+claimed L a b =
+    let x = run (expand L small) 1000 (start L small 0) (image L (bits a b)) in
+    let y = run (expand L small) 1000 (start L small 0) (image L (bits 0 0)) in
     let z = run small 1000 0 (bits a b) in
-    sameRows (x .rows) (y .rows) && sameBytes (drop 4 (x .state)) (drop 4 (image (z .state)))
+    sameRows (x .rows) (y .rows) && sameBytes (drop 4 (x .state)) (drop 4 (image L (z .state)))
 
-pub small-claimed : T (claimed 0 0 && claimed 0 1 && claimed 1 0 && claimed 1 1)
+abbrev allClaimed : Layout → Bool
+allClaimed L = claimed L 0 0 && claimed L 0 1 && claimed L 1 0 && claimed L 1 1
+
+pub small-claimed : T (forLayouts allClaimed)
 unfolding run expand image row next after ones load scale combine fetch flip writeBack
 small-claimed = tt

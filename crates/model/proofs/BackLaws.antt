@@ -11,6 +11,8 @@ use borrow.Author.Tests.{le-ltb}
 use lib.Dec.{T, ltb, eqb, eqb→eq, eqb-refl, leb→le}
 use lib.ListN.{length, getD}
 use lib.Seq.{ext-getD}
+use Rattle.model.specs.declared.Layout.{Layout}
+use Rattle.model.specs.Layouts.{Known}
 use Rattle.model.specs.declared.Kind.{Kind}
 use Rattle.model.specs.declared.Kind.the-variants.{Neither, Public, Sensitive}
 use Rattle.model.specs.Places.{State, kind}
@@ -22,23 +24,23 @@ use Rattle.model.proofs.PlaceLaws.{mapAt-length, mapAt-getD, image-leng
 
 -- ---- there and back
 
-back-fixed : (i x : ℕ) → kind i ≡ Neither → backAt i x ≡ 0
+back-fixed : (L : Layout) (i x : ℕ) → kind i ≡ Neither → backAt L i x ≡ 0
 unfolding backAt
-back-fixed i x e = rw e
+back-fixed L i x e = rw e
 
-back-bit : (x : ℕ) → x ≤ 1 → (i : ℕ) → kind i ≡ Sensitive → backAt i (code x) ≡ x
+back-bit : (L : Layout) (K : Known L) (x : ℕ) → x ≤ 1 → (i : ℕ) → kind i ≡ Sensitive → backAt L i (code L x) ≡ x
 unfolding backAt
-back-bit x h i e = rw e (code-back x (omega arith))
+back-bit L K x h i e = rw e (code-back L K x (omega arith))
 
-back-public : (i x : ℕ) → kind i ≡ Public → backAt i x ≡ x
+back-public : (L : Layout) (i x : ℕ) → kind i ≡ Public → backAt L i x ≡ x
 unfolding backAt
-back-public i x e = rw e
+back-public L i x e = rw e
 
-back-at : (i x : ℕ) → Bit i x → (k : Kind) → kind i ≡ k → backAt i (imageAt i x) ≡ x
+back-at : (L : Layout) (K : Known L) (i x : ℕ) → Bit i x → (k : Kind) → kind i ≡ k → backAt L i (imageAt L i x) ≡ x
 unfolding Bit imageAt
-back-at i x b Neither e = back-fixed i (imageAt i x) e ∙ sym (rw e at b)
-back-at i x b Public e = rw e (back-public i x e)
-back-at i x b Sensitive e = rw e (back-bit x (rw e at b) i e)
+back-at L K i x b Neither e = back-fixed L i (imageAt L i x) e ∙ sym (rw e at b)
+back-at L K i x b Public e = rw e (back-public L i x e)
+back-at L K i x b Sensitive e = rw e (back-bit L K x (rw e at b) i e)
 
 -- r1 to r3, or any other place
 scratch : (i : ℕ) → ((1 ≤ i) × (i ≤ 3)) ⊎ ((1 ≤ i) × (i ≤ 3) → ⊥)
@@ -60,25 +62,25 @@ zero-at : (i x : ℕ) → kind i ≡ Neither → Bit i x → x ≡ 0
 unfolding Bit
 zero-at i x e h = rw e at h
 
-pub back-image : (s v : State) → BitState s → ButScratch v (image s) → back v ≡ s
+pub back-image : (L : Layout) (K : Known L) (s v : State) → BitState s → ButScratch v (image L s) → back L v ≡ s
 unfolding ButScratch image back
-back-image s v b h =
-    ext-getD 0 (back v) s (mapAt-length backAt 0 v ∙ lv)
-    (λ i g. mapAt-getD backAt 0 v i (len i g) ∙ ap (λ (j : ℕ). backAt j (getD v i 0)) (zero-add i) ∙ at i (len i g) (scratch i))
+back-image L K s v b h =
+    ext-getD 0 (back L v) s (mapAt-length (backAt L) 0 v ∙ lv)
+    (λ i g. mapAt-getD (backAt L) 0 v i (len i g) ∙ ap (λ (j : ℕ). backAt L j (getD v i 0)) (zero-add i) ∙ at i (len i g) (scratch i))
   where
     lv : length v ≡ length s
-    lv = h .0 ∙ image-length s
+    lv = h .0 ∙ image-length L s
 
-    len : (i : ℕ) → i < length (back v) → i < length v
-    len i g = omega (arith, mapAt-length backAt 0 v)
+    len : (i : ℕ) → i < length (back L v) → i < length v
+    len i g = omega (arith, mapAt-length (backAt L) 0 v)
 
-    img : (i : ℕ) → i < length v → getD (image s) i 0 ≡ imageAt i (getD s i 0)
-    img i g = mapAt-getD imageAt 0 s i (omega (arith, lv)) ∙ ap (λ (j : ℕ). imageAt j (getD s i 0)) (zero-add i)
+    img : (i : ℕ) → i < length v → getD (image L s) i 0 ≡ imageAt L i (getD s i 0)
+    img i g = mapAt-getD (imageAt L) 0 s i (omega (arith, lv)) ∙ ap (λ (j : ℕ). imageAt L j (getD s i 0)) (zero-add i)
 
-    at : (i : ℕ) → i < length v → ((1 ≤ i) × (i ≤ 3)) ⊎ ((1 ≤ i) × (i ≤ 3) → ⊥) → backAt i (getD v i 0) ≡ getD s i 0
-    at i g (inl q) = back-fixed i (getD v i 0) (scratch-fixed i q) ∙ sym (zero-at i (getD s i 0) (scratch-fixed i q) (b .bits i (omega (arith, lv, b .long))))
+    at : (i : ℕ) → i < length v → ((1 ≤ i) × (i ≤ 3)) ⊎ ((1 ≤ i) × (i ≤ 3) → ⊥) → backAt L i (getD v i 0) ≡ getD s i 0
+    at i g (inl q) = back-fixed L i (getD v i 0) (scratch-fixed i q) ∙ sym (zero-at i (getD s i 0) (scratch-fixed i q) (b .bits i (omega (arith, lv, b .long))))
     at i g (inr q) =
-        ap (backAt i) (h .1 i (omega (arith, image-length s, lv)) q ∙ img i g) ∙ back-at i (getD s i 0) (b .bits i (omega (arith, lv, b .long))) (kind i) refl
+        ap (backAt L i) (h .1 i (omega (arith, image-length L s, lv)) q ∙ img i g) ∙ back-at L K i (getD s i 0) (b .bits i (omega (arith, lv, b .long))) (kind i) refl
 
 -- ---- condition 19 on the way there: what passes is a bit state
 
@@ -115,43 +117,44 @@ or-right : (x y : Bool) → T y → T (x || y)
 or-right true y h = tt
 or-right false y h = h
 
-code-right : (x : ℕ) → x ≤ 1 → T (eqb (code x) (code 1) || eqb (code x) (code 0))
-code-right zero h = or-right (eqb (code 0) (code 1)) (eqb (code 0) (code 0)) (eqb-refl (code 0))
-code-right (suc zero) h = rw (is-true (eqb (code 1) (code 1)) (eqb-refl (code 1))) tt
-code-right (suc (suc x)) h = absurd (omega arith)
+code-right : (L : Layout) (x : ℕ) → x ≤ 1 → T (eqb (code L x) (code L 1) || eqb (code L x) (code L 0))
+unfolding code
+code-right L zero h = or-right (eqb (L .zero) (L .one)) (eqb (L .zero) (L .zero)) (eqb-refl (L .zero))
+code-right L (suc zero) h = rw (is-true (eqb (L .one) (L .one)) (eqb-refl (L .one))) tt
+code-right L (suc (suc x)) h = absurd (omega arith)
 
-fixed-right : (i : ℕ) → T (cond (ltb i 4) (cond (eqb i 0) (eqb (fixed i) 0) true) (eqb (fixed i) (fixed i)))
+fixed-right : (L : Layout) (i : ℕ) → T (cond (ltb i 4) (cond (eqb i 0) (eqb (fixed L i) 0) true) (eqb (fixed L i) (fixed L i)))
 unfolding fixed
-fixed-right zero = tt
-fixed-right (suc zero) = tt
-fixed-right (suc (suc zero)) = tt
-fixed-right (suc (suc (suc zero))) = tt
-fixed-right (suc (suc (suc (suc i)))) = rw (le-ltb (suc (suc (suc (suc i)))) 4 (omega arith)) (eqb-refl (page (suc (suc (suc (suc i))) - 288)))
+fixed-right L zero = tt
+fixed-right L (suc zero) = tt
+fixed-right L (suc (suc zero)) = tt
+fixed-right L (suc (suc (suc zero))) = tt
+fixed-right L (suc (suc (suc (suc i)))) = rw (le-ltb (suc (suc (suc (suc i)))) 4 (omega arith)) (eqb-refl (page L (suc (suc (suc (suc i))) - 288)))
 
-image-right-at : (i x : ℕ) → Bit i x → (k : Kind) → kind i ≡ k → T (imageRight i (imageAt i x))
+image-right-at : (L : Layout) (i x : ℕ) → Bit i x → (k : Kind) → kind i ≡ k → T (imageRight L i (imageAt L i x))
 unfolding Bit imageAt imageRight
-image-right-at i x b Neither e = rw e (fixed-right i)
-image-right-at i x b Public e = rw e tt
-image-right-at i x b Sensitive e = rw e (code-right x (rw e at b))
+image-right-at L i x b Neither e = rw e (fixed-right L i)
+image-right-at L i x b Public e = rw e tt
+image-right-at L i x b Sensitive e = rw e (code-right L x (rw e at b))
 
-scratch-right : (i x : ℕ) → (1 ≤ i) × (i ≤ 3) → T (imageRight i x)
+scratch-right : (L : Layout) (i x : ℕ) → (1 ≤ i) × (i ≤ 3) → T (imageRight L i x)
 unfolding imageRight kind
-scratch-right zero x h = absurd (not-suc-le-zero (h .0))
-scratch-right (suc zero) x h = tt
-scratch-right (suc (suc zero)) x h = tt
-scratch-right (suc (suc (suc zero))) x h = tt
-scratch-right (suc (suc (suc (suc i)))) x h = absurd (omega arith)
+scratch-right L zero x h = absurd (not-suc-le-zero (h .0))
+scratch-right L (suc zero) x h = tt
+scratch-right L (suc (suc zero)) x h = tt
+scratch-right L (suc (suc (suc zero))) x h = tt
+scratch-right L (suc (suc (suc (suc i)))) x h = absurd (omega arith)
 
-pub image-passes : (s v : State) → BitState s → ButScratch v (image s) → T (every imageRight 0 v)
+pub image-passes : (L : Layout) (s v : State) → BitState s → ButScratch v (image L s) → T (every (imageRight L) 0 v)
 unfolding ButScratch image
-image-passes s v b h = every-passes imageRight 0 v (λ i g. subst (λ (m : ℕ). T (imageRight m (getD v i 0))) (sym (zero-add i)) (at i g (scratch i)))
+image-passes L s v b h = every-passes (imageRight L) 0 v (λ i g. subst (λ (m : ℕ). T (imageRight L m (getD v i 0))) (sym (zero-add i)) (at i g (scratch i)))
   where
     lv : length v ≡ length s
-    lv = h .0 ∙ image-length s
+    lv = h .0 ∙ image-length L s
 
-    at : (i : ℕ) → i < length v → ((1 ≤ i) × (i ≤ 3)) ⊎ ((1 ≤ i) × (i ≤ 3) → ⊥) → T (imageRight i (getD v i 0))
-    at i g (inl q) = scratch-right i (getD v i 0) q
+    at : (i : ℕ) → i < length v → ((1 ≤ i) × (i ≤ 3)) ⊎ ((1 ≤ i) × (i ≤ 3) → ⊥) → T (imageRight L i (getD v i 0))
+    at i g (inl q) = scratch-right L i (getD v i 0) q
     at i g (inr q) =
-        let e : getD v i 0 ≡ imageAt i (getD s i 0) =
-        h .1 i (omega (arith, image-length s, lv)) q ∙ mapAt-getD imageAt 0 s i (omega (arith, lv)) ∙ ap (λ (j : ℕ). imageAt j (getD s i 0)) (zero-add i) in
-        subst (λ (x : ℕ). T (imageRight i x)) (sym e) (image-right-at i (getD s i 0) (b .bits i (omega (arith, lv, b .long))) (kind i) refl)
+        let e : getD v i 0 ≡ imageAt L i (getD s i 0) =
+        h .1 i (omega (arith, image-length L s, lv)) q ∙ mapAt-getD (imageAt L) 0 s i (omega (arith, lv)) ∙ ap (λ (j : ℕ). imageAt L j (getD s i 0)) (zero-add i) in
+        subst (λ (x : ℕ). T (imageRight L i x)) (sym e) (image-right-at L i (getD s i 0) (b .bits i (omega (arith, lv, b .long))) (kind i) refl)

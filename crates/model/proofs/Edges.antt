@@ -11,6 +11,7 @@ use Rattle.model.specs.declared.Opcode.the-variants.{Not, Xor, Lsl, Add}
 use Rattle.model.specs.declared.Operand.the-variants.{Empty, Literal, Register, SensitiveCell}
 use Rattle.model.specs.declared.Line.{Line}
 use Rattle.model.specs.Answers.{counted, halted, outcome}
+use Rattle.model.specs.Layouts.{neighbours}
 use Rattle.model.specs.Places.{State, address}
 use Rattle.model.specs.Stored.{linesFrom, operandOf, targetOf}
 use Rattle.model.specs.Text.{spellMark, spellOpcode, spellOperand, spellTarget, readOutcome}
@@ -29,12 +30,12 @@ r4-is-1 = set (replicate 544 0) 4 1
 
 abbrev pub edges : List Pair
 edges =
-    pair (page (andTable + 5)) 1
-    ∷ pair (page (andTable + 6)) 2
-    ∷ pair (page (orrTable + 9)) 1
-    ∷ pair (page (xorTable + 5)) 2
-    ∷ pair (page (xorTable + 0)) 0
-    ∷ pair (code 0) 2
+    pair (page neighbours (andTable neighbours + 5)) 1
+    ∷ pair (page neighbours (andTable neighbours + 6)) 2
+    ∷ pair (page neighbours (orrTable neighbours + 9)) 1
+    ∷ pair (page neighbours (xorTable neighbours + 5)) 2
+    ∷ pair (page neighbours (xorTable neighbours + 0)) 0
+    ∷ pair (code neighbours 0) 2
     ∷ pair (weight 255) 8
     ∷ pair (distance 1 2) 2
     ∷ pair (alu Unmarked Add 200 100) 44
@@ -52,7 +53,7 @@ edges-hold = tt
 abbrev printed : List Line
 printed = markedLine Not (Register 16) (Register 17) Empty ∷ []
 
-pub printed-lines : expand printed ≡
+pub printed-lines : expand neighbours printed ≡
     move (Register 1) (Register 0)
     ∷ move (Register 1) (Register 17)
     ∷ markedLine Xor (Register 1) (Register 1) (Literal 3)
@@ -63,7 +64,7 @@ unfolding expand load flip writeBack
 printed-lines = refl
 
 -- the trace from the image of the all-zero state, and `halted,5`
-pub printed-rows : run (expand printed) 1000 0 (image (replicate 544 0)) .rows ≡
+pub printed-rows : run (expand neighbours printed) 1000 0 (image neighbours (replicate 544 0)) .rows ≡
     (0 ∷ 0 ∷ 0 ∷ 0 ∷ 0 ∷ 0 ∷ [])
     ∷ (1 ∷ 1 ∷ 1 ∷ 0 ∷ 0 ∷ 0 ∷ [])
     ∷ (2 ∷ 1 ∷ 2 ∷ 0 ∷ 0 ∷ 0 ∷ [])
@@ -73,7 +74,7 @@ pub printed-rows : run (expand printed) 1000 0 (image (replicate 544 0)) .rows �
 unfolding run expand image row next after ones load flip writeBack
 printed-rows = refl
 
-pub printed-answer : answer (expand printed) (run (expand printed) 1000 0 (image (replicate 544 0))) ≡ halted 5 5
+pub printed-answer : answer (expand neighbours printed) (run (expand neighbours printed) 1000 0 (image neighbours (replicate 544 0))) ≡ halted 5 5
 unfolding answer run expand image row next after ones load flip writeBack
 printed-answer = refl
 

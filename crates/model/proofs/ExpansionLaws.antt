@@ -3,11 +3,13 @@
 use mathlib.Core.Path.{_≡_, refl, sym, ap, ap₂, _∙_}
 use mathlib.Core.Bool.{Bool, true, false, not, _&&_}
 use mathlib.Core.List.{List, [], _∷_, _++_, flatMap}
-use Prim.Native.Nat.{ℕ, zero, suc, _*_, _≤_}
+use Prim.Native.Nat.{ℕ, zero, suc, _+_, _*_, _≤_}
 use native.Mathlib.Omega.{arith}
 use borrow.Author.Tests.{le-ltb}
-use lib.Dec.{T, ltb, leb, lt→ltb, le→leb, nltb→le}
+use lib.Dec.{T, ltb, leb, le→leb, lt→ltb, nltb→le}
 use lib.ListN.{length}
+use Rattle.model.specs.declared.Layout.{Layout}
+use Rattle.model.specs.Layouts.{Known}
 use Rattle.model.specs.declared.Mark.{Mark}
 use Rattle.model.specs.declared.Mark.the-variants.{Unmarked, Marked}
 use Rattle.model.specs.declared.Opcode.{Opcode}
@@ -21,8 +23,8 @@ use Rattle.model.specs.Limits.{maxLines, maxAccepted, longest}
 use Rattle.model.specs.Answers.{Report, counted}
 use Rattle.model.specs.Lines.{fills, operandRight, targetRight, isLiteral, correct, AllCorrect}
 use Rattle.model.specs.Stored.{codes, lineCount, lines, programCheck}
-use Rattle.model.specs.Code.{code, mask, andTable, orrTable, xorTable}
-use Rattle.model.specs.Expansion.{coded, move, load, scale, combine, fetch, flip, writeBack, lookup, negate, copy, macro, newTarget, retarget, partOf, part, size, start, joined, expand}
+use Rattle.model.specs.Code.{code, andTable, orrTable, xorTable}
+use Rattle.model.specs.Expansion.{coded, move, load, shifts, scale, combine, fetch, flip, writeBack, lookup, negate, copy, macro, newTarget, retarget, partOf, part, size, start, joined, expand}
 use Rattle.model.specs.Marks.{isAbove, holds16, markFault, marksOf, markCheck, Accepted}
 use Rattle.model.proofs.TestLaws.{and-both, both-and}
 use Rattle.model.proofs.Finite.{code-low, mask-low, table-low}
@@ -33,42 +35,42 @@ use Rattle.model.proofs.StoredLaws.{CheckAnswer, accepts, refuses, chec
 
 -- ---- the code of a bit, by whether it is 0
 
-pub code-zero : (n : ℕ) → n ≡ 0 → 2 ≡ code n
+pub code-zero : (L : Layout) (n : ℕ) → n ≡ 0 → L .zero ≡ code L n
 unfolding code
-code-zero n e = rw e
+code-zero L n e = rw e
 
-pub code-more : (n : ℕ) → (n ≡ 0 → ⊥) → 1 ≡ code n
+pub code-more : (L : Layout) (n : ℕ) → (n ≡ 0 → ⊥) → L .one ≡ code L n
 unfolding code
-code-more zero h = absurd (h refl)
-code-more (suc n) h = refl
+code-more L zero h = absurd (h refl)
+code-more L (suc n) h = refl
 
 -- ---- how long a part is
 
-pub size-most : (l : Line) → size l ≤ longest
+pub size-most : (L : Layout) (l : Line) → size L l ≤ longest
 unfolding size partOf
-size-most l = go (l .mark)
+size-most L l = go (l .mark)
   where
-    go : (m : Mark) → length (partOf m (λ t. t) l) ≤ longest
+    go : (m : Mark) → length (partOf L m (λ t. t) l) ≤ longest
     go Unmarked = omega arith
-    go Marked = macro-size (l .opcode) (l .destination) (coded (l .first)) (coded (l .second)) .1
+    go Marked = macro-size L (l .opcode) (l .destination) (coded L (l .first)) (coded L (l .second)) .1
 
-pub start-bound : (p : List Line) (i : ℕ) → start p i ≤ longest * length p
+pub start-bound : (L : Layout) (p : List Line) (i : ℕ) → start L p i ≤ longest * length p
 unfolding start
-start-bound [] i = omega arith
-start-bound (l ∷ p) zero = omega arith
-start-bound (l ∷ p) (suc i) = omega (arith, size-most l, start-bound p i)
+start-bound L [] i = omega arith
+start-bound L (l ∷ p) zero = omega arith
+start-bound L (l ∷ p) (suc i) = omega (arith, size-most L l, start-bound L p i)
 
 -- no line starts past the expansion's end, which is the start of the line past the last
-pub start-within : (p : List Line) (i n : ℕ) → n ≡ length p → start p i ≤ start p n
+pub start-within : (L : Layout) (p : List Line) (i n : ℕ) → n ≡ length p → start L p i ≤ start L p n
 unfolding start
-start-within [] i n e = omega arith
-start-within (l ∷ p) zero n e = omega arith
-start-within (l ∷ p) (suc i) zero e = absurd (omega arith)
-start-within (l ∷ p) (suc i) (suc n) e = omega (arith, start-within p i n (omega arith))
+start-within L [] i n e = omega arith
+start-within L (l ∷ p) zero n e = omega arith
+start-within L (l ∷ p) (suc i) zero e = absurd (omega arith)
+start-within L (l ∷ p) (suc i) (suc n) e = omega (arith, start-within L p i n (omega arith))
 
-pub expand-length : (p : List Line) (n : ℕ) → n ≡ length p → length (expand p) ≡ start p n
+pub expand-length : (L : Layout) (p : List Line) (n : ℕ) → n ≡ length p → length (expand L p) ≡ start L p n
 unfolding expand
-expand-length p n e = sym (joined-length (start p) p n (omega arith))
+expand-length L p n e = sym (joined-length L (start L p) p n (omega arith))
 
 -- ---- the lines of a part are correct
 
@@ -89,80 +91,84 @@ unfolding load operandRight isLiteral
 load-correct n a hn ha = (move-correct (Register n) (Register 0) hn tt tt, (move-correct (Register n) a hn tt ha, tt))
 
 -- a line that masks with both bits of a code
-mask-right : T (leb mask 255 && true)
-mask-right = both-and (leb mask 255) true (le→leb mask 255 (omega (arith, mask-low))) tt
+mask-right : (L : Layout) → Known L → T (leb (L .mask) 255 && true)
+mask-right L K = both-and (leb (L .mask) 255) true (le→leb (L .mask) 255 (omega (arith, mask-low L K))) tt
 
-scale-correct : AllCorrect scale
+scale-correct : (L : Layout) (K : Known L) → AllCorrect (scale L)
 unfolding scale correct
-scale-correct = (mask-right, (tt, (tt, tt)))
+scale-correct L K = (mask-right L K, go (L .spaced))
+  where
+    go : (c : Bool) → AllCorrect (shifts c)
+    go true = (tt, tt)
+    go false = (tt, (tt, tt))
 
-combine-correct : AllCorrect combine
+combine-correct : (L : Layout) (K : Known L) → AllCorrect (combine L)
 unfolding combine correct
-combine-correct = (mask-right, (tt, tt))
+combine-correct L K = (mask-right L K, (tt, tt))
 
 fetch-correct : (t : ℕ) → T (ltb t 256) → AllCorrect (fetch t)
 unfolding fetch operandRight isLiteral
 fetch-correct t h = (move-correct (Register 3) (Register 0) tt tt tt, (move-correct (Register 3) (TableCell 1 t) tt tt h, tt))
 
-flip-correct : AllCorrect flip
+flip-correct : (L : Layout) (K : Known L) → AllCorrect (flip L)
 unfolding flip correct
-flip-correct = (mask-right, tt)
+flip-correct L K = (mask-right L K, tt)
 
 write-back-correct : (n : ℕ) (d : Operand) → T (ltb n 32) → T (operandRight true d) → T (not (isLiteral d)) → AllCorrect (writeBack n d)
 unfolding writeBack operandRight
 write-back-correct n d hn hd nd = (move-correct d (Register 0) hd nd tt, (move-correct d (Register n) hd nd hn, tt))
 
-module _ (d a : Operand) (hd : T (operandRight true d)) (nd : T (not (isLiteral d))) (ha : T (operandRight true a)) where
-  lookup-correct : (t : ℕ) (b : Operand) → T (operandRight true b) → T (ltb t 256) → AllCorrect (lookup t d a b)
+module _ (L : Layout) (K : Known L) (d a : Operand) (hd : T (operandRight true d)) (nd : T (not (isLiteral d))) (ha : T (operandRight true a)) where
+  lookup-correct : (t : ℕ) (b : Operand) → T (operandRight true b) → T (ltb t 256) → AllCorrect (lookup L t d a b)
   unfolding lookup
   lookup-correct t b hb ht =
       let last : List Line = fetch t ++ writeBack 3 d in
-      let later : List Line = load 2 b ++ (combine ++ last) in
-      append-correct (load 1 a) (scale ++ later) (load-correct 1 a tt ha) (append-correct scale later scale-correct
-      (append-correct (load 2 b) (combine ++ last) (load-correct 2 b tt hb) (append-correct combine last combine-correct
+      let later : List Line = load 2 b ++ (combine L ++ last) in
+      append-correct (load 1 a) (scale L ++ later) (load-correct 1 a tt ha) (append-correct (scale L) later (scale-correct L K)
+      (append-correct (load 2 b) (combine L ++ last) (load-correct 2 b tt hb) (append-correct (combine L) last (combine-correct L K)
       (append-correct (fetch t) (writeBack 3 d) (fetch-correct t ht) (write-back-correct 3 d tt hd nd)))))
 
-  negate-correct : AllCorrect (negate d a)
+  negate-correct : AllCorrect (negate L d a)
   unfolding negate
-  negate-correct = append-correct (load 1 a) (flip ++ writeBack 1 d) (load-correct 1 a tt ha) (append-correct flip (writeBack 1 d) flip-correct (write-back-correct 1 d tt hd nd))
+  negate-correct = append-correct (load 1 a) (flip L ++ writeBack 1 d) (load-correct 1 a tt ha) (append-correct (flip L) (writeBack 1 d) (flip-correct L K) (write-back-correct 1 d tt hd nd))
 
   copy-correct : AllCorrect (copy d a)
   unfolding copy
   copy-correct = append-correct (load 3 a) (writeBack 3 d) (load-correct 3 a tt ha) (write-back-correct 3 d tt hd nd)
 
-macro-correct : (o : Opcode) (d a b : Operand) → T (operandRight (fills o .destination) d) → T (not (isLiteral d)) → T (operandRight (fills o .first) a) → T (operandRight (fills o .second) b)
-    → AllCorrect (macro o d a b)
+macro-correct : (L : Layout) (K : Known L) (o : Opcode) (d a b : Operand) → T (operandRight (fills o .destination) d) → T (not (isLiteral d)) → T (operandRight (fills o .first) a) → T (operandRight (fills o .second) b)
+    → AllCorrect (macro L o d a b)
 unfolding macro fills
-macro-correct Nop d a b hd nd ha hb = tt
-macro-correct Jmp d a b hd nd ha hb = tt
-macro-correct Not d a b hd nd ha hb = negate-correct d a hd nd ha
-macro-correct Mov d a b hd nd ha hb = copy-correct d a hd nd ha
-macro-correct And d a b hd nd ha hb = lookup-correct d a hd nd ha andTable b hb (lt→ltb andTable 256 (table-low 0 (omega arith)))
-macro-correct Orr d a b hd nd ha hb = lookup-correct d a hd nd ha orrTable b hb (lt→ltb orrTable 256 (table-low 1 (omega arith)))
-macro-correct Xor d a b hd nd ha hb = lookup-correct d a hd nd ha xorTable b hb (lt→ltb xorTable 256 (table-low 2 (omega arith)))
-macro-correct Lsl d a b hd nd ha hb = tt
-macro-correct Lsr d a b hd nd ha hb = tt
-macro-correct Add d a b hd nd ha hb = tt
-macro-correct Mul d a b hd nd ha hb = tt
-macro-correct Beq d a b hd nd ha hb = tt
-macro-correct Bne d a b hd nd ha hb = tt
+macro-correct L K Nop d a b hd nd ha hb = tt
+macro-correct L K Jmp d a b hd nd ha hb = tt
+macro-correct L K Not d a b hd nd ha hb = negate-correct L K d a hd nd ha
+macro-correct L K Mov d a b hd nd ha hb = copy-correct L K d a hd nd ha
+macro-correct L K And d a b hd nd ha hb = lookup-correct L K d a hd nd ha (andTable L) b hb (lt→ltb (andTable L) 256 (table-low L K 0 (omega arith)))
+macro-correct L K Orr d a b hd nd ha hb = lookup-correct L K d a hd nd ha (orrTable L) b hb (lt→ltb (orrTable L) 256 (table-low L K 1 (omega arith)))
+macro-correct L K Xor d a b hd nd ha hb = lookup-correct L K d a hd nd ha (xorTable L) b hb (lt→ltb (xorTable L) 256 (table-low L K 2 (omega arith)))
+macro-correct L K Lsl d a b hd nd ha hb = tt
+macro-correct L K Lsr d a b hd nd ha hb = tt
+macro-correct L K Add d a b hd nd ha hb = tt
+macro-correct L K Mul d a b hd nd ha hb = tt
+macro-correct L K Beq d a b hd nd ha hb = tt
+macro-correct L K Bne d a b hd nd ha hb = tt
 
-code-byte : (n : ℕ) → T (leb (code n) 255)
+code-byte : (L : Layout) (K : Known L) (n : ℕ) → T (leb (code L n) 255)
 unfolding code
-code-byte zero = le→leb (code 0) 255 (omega (arith, code-low 0 (omega arith)))
-code-byte (suc n) = le→leb (code 1) 255 (omega (arith, code-low 1 (omega arith)))
+code-byte L K zero = le→leb (L .zero) 255 (omega (arith, code-low L K 0 (omega arith)))
+code-byte L K (suc n) = le→leb (L .one) 255 (omega (arith, code-low L K 1 (omega arith)))
 
-coded-right : (must : Bool) (o : Operand) → T (operandRight must o) → T (operandRight must (coded o))
+coded-right : (L : Layout) (K : Known L) (must : Bool) (o : Operand) → T (operandRight must o) → T (operandRight must (coded L o))
 unfolding operandRight coded
-coded-right must Empty h = h
-coded-right must (Literal n) h = both-and must (leb (code n) 255) (and-both must (leb n 255) h .0) (code-byte n)
-coded-right must (Register n) h = h
-coded-right must (Cell n) h = h
-coded-right must (PublicCell r k) h = h
-coded-right must (SensitiveCell r k) h = h
-coded-right must (TableCell r k) h = h
+coded-right L K must Empty h = h
+coded-right L K must (Literal n) h = both-and must (leb (code L n) 255) (and-both must (leb n 255) h .0) (code-byte L K n)
+coded-right L K must (Register n) h = h
+coded-right L K must (Cell n) h = h
+coded-right L K must (PublicCell r k) h = h
+coded-right L K must (SensitiveCell r k) h = h
+coded-right L K must (TableCell r k) h = h
 
-module _ (starts : ℕ → ℕ) (few : (k : ℕ) → starts k ≤ maxLines) where
+module _ (L : Layout) (K : Known L) (starts : ℕ → ℕ) (few : (k : ℕ) → starts k ≤ maxLines) where
   moved-right : (must : Bool) (t : Target) → T (targetRight must t) → T (targetRight must (newTarget starts t))
   unfolding targetRight newTarget
   moved-right must NoTarget h = h
@@ -177,36 +183,36 @@ module _ (starts : ℕ → ℕ) (few : (k : ℕ) → starts k ≤ maxLines) wher
       let w = and-both before (targetRight (fills (l .opcode) .target) (l .target)) h in
       both-and before (targetRight (fills (l .opcode) .target) (newTarget starts (l .target))) (w .0) (moved-right (fills (l .opcode) .target) (l .target) (w .1))
 
-  part-correct : (l : Line) → T (correct l) → AllCorrect (part starts l)
+  part-correct : (l : Line) → T (correct l) → AllCorrect (part L starts l)
   unfolding partOf
   part-correct l h = go (l .mark)
     where
-      go : (m : Mark) → AllCorrect (partOf m starts l)
+      go : (m : Mark) → AllCorrect (partOf L m starts l)
       go Unmarked = (retarget-correct l h, tt)
       go Marked =
           let f = correct-fields l h in
-          macro-correct (l .opcode) (l .destination) (coded (l .first)) (coded (l .second)) (f .destination) (rw (f .place) tt)
-          (coded-right (fills (l .opcode) .first) (l .first) (f .first)) (coded-right (fills (l .opcode) .second) (l .second) (f .second))
+          macro-correct L K (l .opcode) (l .destination) (coded L (l .first)) (coded L (l .second)) (f .destination) (rw (f .place) tt)
+          (coded-right L K (fills (l .opcode) .first) (l .first) (f .first)) (coded-right L K (fills (l .opcode) .second) (l .second) (f .second))
 
-  joined-correct : (n : ℕ) (p : List Line) → AllRight n p → AllCorrect (joined starts p)
+  joined-correct : (n : ℕ) (p : List Line) → AllRight n p → AllCorrect (joined L starts p)
   unfolding AllRight joined
   joined-correct n [] h = tt
-  joined-correct n (l ∷ p) h = append-correct (part starts l) (joined starts p) (part-correct l (h .0)) (joined-correct n p (h .2))
+  joined-correct n (l ∷ p) h = append-correct (part L starts l) (joined L starts p) (part-correct l (h .0)) (joined-correct n p (h .2))
 
 -- the expansion of an accepted program, as a stored program
-module _ (p : List Line) (A : Accepted p) where
-  pub expansion-most : length (expand p) ≤ longest * maxAccepted
-  expansion-most = omega (arith, expand-length p (length p) refl, start-bound p (length p), accepted-right p A .few)
+module _ (L : Layout) (K : Known L) (p : List Line) (A : Accepted p) where
+  pub expansion-most : length (expand L p) ≤ longest * maxAccepted
+  expansion-most = omega (arith, expand-length L p (length p) refl, start-bound L p (length p), accepted-right p A .few)
 
-  pub expansion-correct : AllCorrect (expand p)
+  pub expansion-correct : AllCorrect (expand L p)
   unfolding expand
-  expansion-correct = joined-correct (start p) (λ k. omega (arith, start-bound p k, accepted-right p A .few)) (length p) p (accepted-right p A .right)
+  expansion-correct = joined-correct L K (start L p) (λ k. omega (arith, start-bound L p k, accepted-right p A .few)) (length p) p (accepted-right p A .right)
 
-  pub expansion-check : programCheck (flatMap codes (expand p)) ≡ counted (length (expand p))
-  expansion-check = whole-check (expand p) expansion-correct (omega (arith, expansion-most))
+  pub expansion-check : programCheck (flatMap codes (expand L p)) ≡ counted (length (expand L p))
+  expansion-check = whole-check (expand L p) expansion-correct (omega (arith, expansion-most))
 
-  pub expansion-lines : lines (flatMap codes (expand p)) ≡ expand p
-  expansion-lines = whole-lines (expand p) expansion-correct
+  pub expansion-lines : lines (flatMap codes (expand L p)) ≡ expand L p
+  expansion-lines = whole-lines (expand L p) expansion-correct
 
 -- ---- targets
 
@@ -228,21 +234,26 @@ allFree : List Line → Bool
 allFree [] = true
 allFree (l ∷ ls) = isFree (l .target) && allFree ls
 
-macro-free : (o : Opcode) (d a b : Operand) → T (allFree (macro o d a b))
+shifts-free : (c : Bool) (ls : List Line) → T (allFree ls) → T (allFree (shifts c ++ ls))
+unfolding shifts isFree allFree
+shifts-free true ls h = h
+shifts-free false ls h = h
+
+macro-free : (L : Layout) (o : Opcode) (d a b : Operand) → T (allFree (macro L o d a b))
 unfolding macro lookup negate copy load scale combine fetch flip writeBack isFree allFree
-macro-free Nop d a b = tt
-macro-free Jmp d a b = tt
-macro-free Not d a b = tt
-macro-free Mov d a b = tt
-macro-free And d a b = tt
-macro-free Orr d a b = tt
-macro-free Xor d a b = tt
-macro-free Lsl d a b = tt
-macro-free Lsr d a b = tt
-macro-free Add d a b = tt
-macro-free Mul d a b = tt
-macro-free Beq d a b = tt
-macro-free Bne d a b = tt
+macro-free L Nop d a b = tt
+macro-free L Jmp d a b = tt
+macro-free L Not d a b = tt
+macro-free L Mov d a b = tt
+macro-free L And d a b = shifts-free (L .spaced) _ tt
+macro-free L Orr d a b = shifts-free (L .spaced) _ tt
+macro-free L Xor d a b = shifts-free (L .spaced) _ tt
+macro-free L Lsl d a b = tt
+macro-free L Lsr d a b = tt
+macro-free L Add d a b = tt
+macro-free L Mul d a b = tt
+macro-free L Beq d a b = tt
+macro-free L Bne d a b = tt
 
 free-within : (n : ℕ) (t : Target) → T (isFree t) → T (not (isAbove n t))
 unfolding isFree isAbove
@@ -254,25 +265,25 @@ unfolding allFree
 all-within n [] h = tt
 all-within n (l ∷ ls) h = let w = and-both (isFree (l .target)) (allFree ls) h in (free-within n (l .target) (w .0), all-within n ls (w .1))
 
-module _ (starts : ℕ → ℕ) (n : ℕ) (few : (k : ℕ) → starts k ≤ n) where
+module _ (L : Layout) (starts : ℕ → ℕ) (n : ℕ) (few : (k : ℕ) → starts k ≤ n) where
   moved-within : (t : Target) → T (not (isAbove n (newTarget starts t)))
   unfolding isAbove newTarget
   moved-within NoTarget = tt
   moved-within (ToLine t) = rw (le-ltb n (starts t) (few t)) tt
 
-  joined-within : (p : List Line) → Within n (joined starts p)
+  joined-within : (p : List Line) → Within n (joined L starts p)
   unfolding joined partOf
   joined-within [] = tt
-  joined-within (l ∷ p) = append-within n (part starts l) (joined starts p) (go (l .mark)) (joined-within p)
+  joined-within (l ∷ p) = append-within n (part L starts l) (joined L starts p) (go (l .mark)) (joined-within p)
     where
-      go : (m : Mark) → Within n (partOf m starts l)
+      go : (m : Mark) → Within n (partOf L m starts l)
       go Unmarked = (moved-within (l .target), tt)
-      go Marked = all-within n (macro (l .opcode) (l .destination) (coded (l .first)) (coded (l .second))) (macro-free (l .opcode) (l .destination) (coded (l .first)) (coded (l .second)))
+      go Marked = all-within n (macro L (l .opcode) (l .destination) (coded L (l .first)) (coded L (l .second))) (macro-free L (l .opcode) (l .destination) (coded L (l .first)) (coded L (l .second)))
 
 -- every target of an expansion is one of its lines or its end
-pub expansion-within : (p : List Line) → Within (length (expand p)) (expand p)
+pub expansion-within : (L : Layout) (p : List Line) → Within (length (expand L p)) (expand L p)
 unfolding expand
-expansion-within p = joined-within (start p) (length (expand p)) (λ k. omega (arith, expand-length p (length p) refl, start-within p k (length p) refl)) p
+expansion-within L p = joined-within L (start L p) (length (expand L p)) (λ k. omega (arith, expand-length L p (length p) refl, start-within L p k (length p) refl)) p
 
 -- ---- starts that agree up to the line count give the same expansion
 
@@ -280,21 +291,21 @@ none-above : (n : ℕ) (l : Line) → markFault n l ≡ 0 → T (not (isAbove n 
 unfolding holds16
 none-above n l e = clear n l e .c16
 
-module _ (f g : ℕ → ℕ) (n : ℕ) (same : (k : ℕ) → k ≤ n → f k ≡ g k) where
+module _ (L : Layout) (f g : ℕ → ℕ) (n : ℕ) (same : (k : ℕ) → k ≤ n → f k ≡ g k) where
   moved-same : (t : Target) → T (not (isAbove n t)) → newTarget f t ≡ newTarget g t
   unfolding newTarget isAbove
   moved-same NoTarget h = refl
   moved-same (ToLine t) h = ap ToLine (same t (nltb→le n t h))
 
-  part-same : (l : Line) → markFault n l ≡ 0 → part f l ≡ part g l
+  part-same : (l : Line) → markFault n l ≡ 0 → part L f l ≡ part L g l
   unfolding partOf
   part-same l e = go (l .mark)
     where
-      go : (m : Mark) → partOf m f l ≡ partOf m g l
+      go : (m : Mark) → partOf L m f l ≡ partOf L m g l
       go Unmarked = rw (moved-same (l .target) (none-above n l e))
       go Marked = refl
 
-  pub joined-same : (p : List Line) → AllRight n p → joined f p ≡ joined g p
+  pub joined-same : (p : List Line) → AllRight n p → joined L f p ≡ joined L g p
   unfolding joined AllRight
   joined-same [] h = refl
   joined-same (l ∷ p) h = ap₂ (λ (a b : List Line). a ++ b) (part-same l (h .1)) (joined-same p (h .2))

@@ -1,11 +1,13 @@
 -- How long the macros are: each by the lengths of its pieces, so that a piece that changes its length changes its own law alone.
 -- Assumes nothing.
-use mathlib.Core.Path.{_≡_}
+use mathlib.Core.Path.{_≡_, refl}
+use mathlib.Core.Bool.{Bool, true, false}
 use mathlib.Core.List.{List, _++_}
 use Prim.Native.Nat.{ℕ, _+_, _≤_}
 use native.Mathlib.Omega.{arith}
 use lib.Dec.{T}
 use lib.ListN.{length, length-append}
+use Rattle.model.specs.declared.Layout.{Layout}
 use Rattle.model.specs.declared.Opcode.{Opcode}
 use Rattle.model.specs.declared.Opcode.the-variants.{Nop, Jmp, Not, Mov, And, Orr, Xor, Lsl, Lsr, Add, Mul, Beq, Bne}
 use Rattle.model.specs.declared.Operand.{Operand}
@@ -13,53 +15,71 @@ use Rattle.model.specs.declared.Line.{Line}
 use Rattle.model.specs.Limits.{longest}
 use Rattle.model.specs.Code.{andTable, orrTable, xorTable}
 use Rattle.model.specs.Marks.{hasMacro}
-use Rattle.model.specs.Expansion.{load, scale, combine, fetch, flip, writeBack, lookup, negate, copy, macro}
+use Rattle.model.specs.Expansion.{load, shifts, scale, combine, fetch, flip, writeBack, lookup, negate, copy, macro}
 use Rattle.model.proofs.Loads.{load-size}
 
-pub lookup-pieces : (t : ℕ) (d a b : Operand)
-    → length (lookup t d a b) ≡ length (load 1 a) + (length scale + (length (load 2 b) + (length combine + (length (fetch t) + length (writeBack 3 d)))))
+pub lookup-pieces : (L : Layout) (t : ℕ) (d a b : Operand)
+    → length (lookup L t d a b) ≡ length (load 1 a) + (length (scale L) + (length (load 2 b) + (length (combine L) + (length (fetch t) + length (writeBack 3 d)))))
 unfolding lookup
-lookup-pieces t d a b =
+lookup-pieces L t d a b =
     let f : List Line = fetch t ++ writeBack 3 d in
-    let c : List Line = combine ++ f in
+    let c : List Line = combine L ++ f in
     let l : List Line = load 2 b ++ c in
-    rw (length-append (load 1 a) (scale ++ l), length-append scale l, length-append (load 2 b) c, length-append combine f, length-append (fetch t) (writeBack 3 d))
+    rw (length-append (load 1 a) (scale L ++ l), length-append (scale L) l, length-append (load 2 b) c, length-append (combine L) f, length-append (fetch t) (writeBack 3 d))
 
-pub negate-pieces : (d a : Operand) → length (negate d a) ≡ length (load 1 a) + (length flip + length (writeBack 1 d))
+pub negate-pieces : (L : Layout) (d a : Operand) → length (negate L d a) ≡ length (load 1 a) + (length (flip L) + length (writeBack 1 d))
 unfolding negate
-negate-pieces d a = rw (length-append (load 1 a) (flip ++ writeBack 1 d), length-append flip (writeBack 1 d))
+negate-pieces L d a = rw (length-append (load 1 a) (flip L ++ writeBack 1 d), length-append (flip L) (writeBack 1 d))
 
 pub copy-pieces : (d a : Operand) → length (copy d a) ≡ length (load 3 a) + length (writeBack 3 d)
 unfolding copy
 copy-pieces d a = length-append (load 3 a) (writeBack 3 d)
 
+-- ---- a scaling, by whether the bits are spaced
+
+pub scale-spaced : (L : Layout) → L .spaced ≡ true → length (scale L) ≡ 2
+unfolding scale shifts
+scale-spaced L e = rw e
+
+pub scale-near : (L : Layout) → L .spaced ≡ false → length (scale L) ≡ 3
+unfolding scale shifts
+scale-near L e = rw e
+
+pub scale-size : (L : Layout) → (2 ≤ length (scale L)) × (length (scale L) ≤ 3)
+scale-size L = go (L .spaced) refl
+  where
+    go : (c : Bool) → L .spaced ≡ c → (2 ≤ length (scale L)) × (length (scale L) ≤ 3)
+    go true e = omega (arith, scale-spaced L e)
+    go false e = omega (arith, scale-near L e)
+
 -- ---- the bounds
 
-lookup-most : (t : ℕ) (d a b : Operand) → (1 ≤ length (lookup t d a b)) × (length (lookup t d a b) ≤ longest)
-unfolding scale combine fetch writeBack
-lookup-most t d a b = rw lookup-pieces (omega (arith, load-size 1 a, load-size 2 b))
+module _ (L : Layout) where
+  lookup-most : (t : ℕ) (d a b : Operand) → (1 ≤ length (lookup L t d a b)) × (length (lookup L t d a b) ≤ longest)
+  unfolding combine fetch writeBack
+  lookup-most t d a b = rw lookup-pieces (omega (arith, load-size 1 a, scale-size L, load-size 2 b))
 
-negate-most : (d a : Operand) → (1 ≤ length (negate d a)) × (length (negate d a) ≤ longest)
-unfolding flip writeBack
-negate-most d a = rw negate-pieces (omega (arith, load-size 1 a))
+  negate-most : (d a : Operand) → (1 ≤ length (negate L d a)) × (length (negate L d a) ≤ longest)
+  unfolding flip writeBack
+  negate-most d a = rw negate-pieces (omega (arith, load-size 1 a))
 
-copy-most : (d a : Operand) → (1 ≤ length (copy d a)) × (length (copy d a) ≤ longest)
-unfolding writeBack
-copy-most d a = rw copy-pieces (omega (arith, load-size 3 a))
+  copy-most : (d a : Operand) → (1 ≤ length (copy d a)) × (length (copy d a) ≤ longest)
+  unfolding writeBack
+  copy-most d a = rw copy-pieces (omega (arith, load-size 3 a))
 
--- a macro has at most `longest` lines, and one that a marked line may have has some
-pub macro-size : (op : Opcode) (d a b : Operand) → (T (hasMacro op) → 1 ≤ length (macro op d a b)) × (length (macro op d a b) ≤ longest)
-unfolding macro hasMacro
-macro-size Nop d a b = ((λ h. absurd h), omega arith)
-macro-size Jmp d a b = ((λ h. absurd h), omega arith)
-macro-size Not d a b = ((λ h. negate-most d a .0), negate-most d a .1)
-macro-size Mov d a b = ((λ h. copy-most d a .0), copy-most d a .1)
-macro-size And d a b = ((λ h. lookup-most andTable d a b .0), lookup-most andTable d a b .1)
-macro-size Orr d a b = ((λ h. lookup-most orrTable d a b .0), lookup-most orrTable d a b .1)
-macro-size Xor d a b = ((λ h. lookup-most xorTable d a b .0), lookup-most xorTable d a b .1)
-macro-size Lsl d a b = ((λ h. absurd h), omega arith)
-macro-size Lsr d a b = ((λ h. absurd h), omega arith)
-macro-size Add d a b = ((λ h. absurd h), omega arith)
-macro-size Mul d a b = ((λ h. absurd h), omega arith)
-macro-size Beq d a b = ((λ h. absurd h), omega arith)
-macro-size Bne d a b = ((λ h. absurd h), omega arith)
+  -- a macro has at most `longest` lines, and one that a marked line may have has some
+  pub macro-size : (op : Opcode) (d a b : Operand) → (T (hasMacro op) → 1 ≤ length (macro L op d a b)) × (length (macro L op d a b) ≤ longest)
+  unfolding macro hasMacro
+  macro-size Nop d a b = ((λ h. absurd h), omega arith)
+  macro-size Jmp d a b = ((λ h. absurd h), omega arith)
+  macro-size Not d a b = ((λ h. negate-most d a .0), negate-most d a .1)
+  macro-size Mov d a b = ((λ h. copy-most d a .0), copy-most d a .1)
+  macro-size And d a b = ((λ h. lookup-most (andTable L) d a b .0), lookup-most (andTable L) d a b .1)
+  macro-size Orr d a b = ((λ h. lookup-most (orrTable L) d a b .0), lookup-most (orrTable L) d a b .1)
+  macro-size Xor d a b = ((λ h. lookup-most (xorTable L) d a b .0), lookup-most (xorTable L) d a b .1)
+  macro-size Lsl d a b = ((λ h. absurd h), omega arith)
+  macro-size Lsr d a b = ((λ h. absurd h), omega arith)
+  macro-size Add d a b = ((λ h. absurd h), omega arith)
+  macro-size Mul d a b = ((λ h. absurd h), omega arith)
+  macro-size Beq d a b = ((λ h. absurd h), omega arith)
+  macro-size Bne d a b = ((λ h. absurd h), omega arith)

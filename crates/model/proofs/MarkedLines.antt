@@ -1,11 +1,14 @@
 -- A marked line: its macro from an image leaves the image of what the line leaves, and its rows turn on public numbers alone: the line
 -- number, the Hamming weights of the addresses, and those of the scratch registers. The pieces are joined. Assumes nothing.
 use mathlib.Core.Path.{_≡_, refl, ap, ap₂, _∙_}
+use mathlib.Core.Bool.{Bool, true, false}
 use mathlib.Core.List.{List, [], _++_}
 use Prim.Native.Nat.{ℕ, suc, _+_, _%_, _<_}
 use native.Mathlib.Omega.{arith}
 use lib.Dec.{T, lit<}
 use lib.ListN.{getD, set}
+use Rattle.model.specs.declared.Layout.{Layout}
+use Rattle.model.specs.Layouts.{Known}
 use Rattle.model.specs.declared.Mark.the-variants.{Marked}
 use Rattle.model.specs.declared.Opcode.{Opcode}
 use Rattle.model.specs.declared.Opcode.the-variants.{Nop, Jmp, Not, Mov, And, Orr, Xor, Lsl, Lsr, Add, Mul, Beq, Bne}
@@ -17,7 +20,7 @@ use Rattle.model.specs.Run.{Ran}
 use Rattle.model.specs.Lines.{fills}
 use Rattle.model.specs.Code.{code}
 use Rattle.model.specs.Images.{BitState, imageAt, SamePublic}
-use Rattle.model.specs.Expansion.{coded, load, scale, combine, fetch, flip, writeBack, lookup, negate, copy, macro}
+use Rattle.model.specs.Expansion.{coded, load, shifts, scale, combine, fetch, flip, writeBack, lookup, negate, copy, macro}
 use Rattle.model.specs.Marks.{hasMacro}
 use Rattle.model.proofs.Runs.{ran}
 use Rattle.model.proofs.Straight.{exec, exec-then, Straight, straight-append}
@@ -39,14 +42,14 @@ abbrev pub weights : ℕ → ℕ → ℕ → Weights
 weights x y z = record { one = x; two = y; three = z }
 
 -- v is the image of the bit state s but for r1 to r3, whose Hamming weights are w
-pub record Related (s v : State) (w : Weights) : Type 0 where
+pub record Related (L : Layout) (s v : State) (w : Weights) : Type 0 where
   pub tail : List ℕ
   pub x : ℕ
   pub y : ℕ
   pub z : ℕ
   pub bits : BitState (zeros tail)
   pub source : s ≡ zeros tail
-  pub image : v ≡ held x y z (rails tail)
+  pub image : v ≡ held x y z (rails L tail)
   pub one : weight x ≡ w .one
   pub two : weight y ≡ w .two
   pub three : weight z ≡ w .three
@@ -60,39 +63,39 @@ unfoldable pub negateShown : Operand → ℕ → ℕ → State → ℕ → List 
 negateShown a k x s w = loadShown a k x s ++ (flipShown (loadEnd a k) ++ writeBackShown (flipEnd (loadEnd a k)) w)
 
 -- where the second load, the join, the fetch and the store begin
-abbrev secondAt : Operand → ℕ → ℕ
-secondAt a k = scaleEnd (loadEnd a k)
+abbrev secondAt : (L : Layout) → Operand → ℕ → ℕ
+secondAt L a k = scaleEnd L (loadEnd a k)
 
-abbrev combineAt : Operand → Operand → ℕ → ℕ
-combineAt a b k = loadEnd b (secondAt a k)
+abbrev combineAt : (L : Layout) → Operand → Operand → ℕ → ℕ
+combineAt L a b k = loadEnd b (secondAt L a k)
 
-abbrev fetchAt : Operand → Operand → ℕ → ℕ
-fetchAt a b k = combineEnd (combineAt a b k)
+abbrev fetchAt : (L : Layout) → Operand → Operand → ℕ → ℕ
+fetchAt L a b k = combineEnd (combineAt L a b k)
 
-abbrev writeBackAt : Operand → Operand → ℕ → ℕ
-writeBackAt a b k = fetchEnd (fetchAt a b k)
+abbrev writeBackAt : (L : Layout) → Operand → Operand → ℕ → ℕ
+writeBackAt L a b k = fetchEnd (fetchAt L a b k)
 
-unfoldable pub lookupShown : Operand → Operand → ℕ → Weights → State → ℕ → ℕ → List Row
-lookupShown a b k e s n w =
-    loadShown a k (e .one) s ++ (scaleShown (loadEnd a k) ++ (loadShown b (secondAt a k) (e .two) s
-    ++ (combineShown (combineAt a b k) ++ (fetchShown (fetchAt a b k) (e .three) n ++ writeBackShown (writeBackAt a b k) w))))
+unfoldable pub lookupShown : (L : Layout) → Operand → Operand → ℕ → Weights → State → ℕ → ℕ → List Row
+lookupShown L a b k e s n w =
+    loadShown a k (e .one) s ++ (scaleShown L (loadEnd a k) ++ (loadShown b (secondAt L a k) (e .two) s
+    ++ (combineShown (combineAt L a b k) ++ (fetchShown (fetchAt L a b k) (e .three) n ++ writeBackShown (writeBackAt L a b k) w))))
 
 -- the rows of a marked line's part that begins at k
-unfoldable pub shown : Opcode → Operand → Operand → Operand → ℕ → State → Weights → List Row
+unfoldable pub shown : (L : Layout) → Opcode → Operand → Operand → Operand → ℕ → State → Weights → List Row
 unfolding copyShown negateShown lookupShown
-shown Nop d a b k s w = []
-shown Jmp d a b k s w = []
-shown Not d a b k s w = negateShown a k (w .one) s (weight (address d s))
-shown Mov d a b k s w = copyShown a k (w .three) s (weight (address d s))
-shown And d a b k s w = lookupShown a b k w s (tableWeight 0) (weight (address d s))
-shown Orr d a b k s w = lookupShown a b k w s (tableWeight 1) (weight (address d s))
-shown Xor d a b k s w = lookupShown a b k w s (tableWeight 2) (weight (address d s))
-shown Lsl d a b k s w = []
-shown Lsr d a b k s w = []
-shown Add d a b k s w = []
-shown Mul d a b k s w = []
-shown Beq d a b k s w = []
-shown Bne d a b k s w = []
+shown L Nop d a b k s w = []
+shown L Jmp d a b k s w = []
+shown L Not d a b k s w = negateShown a k (w .one) s (weight (address d s))
+shown L Mov d a b k s w = copyShown a k (w .three) s (weight (address d s))
+shown L And d a b k s w = lookupShown L a b k w s (tableWeight 0) (weight (address d s))
+shown L Orr d a b k s w = lookupShown L a b k w s (tableWeight 1) (weight (address d s))
+shown L Xor d a b k s w = lookupShown L a b k w s (tableWeight 2) (weight (address d s))
+shown L Lsl d a b k s w = []
+shown L Lsr d a b k s w = []
+shown L Add d a b k s w = []
+shown L Mul d a b k s w = []
+shown L Beq d a b k s w = []
+shown L Bne d a b k s w = []
 
 -- the Hamming weights of the scratch registers afterwards
 unfoldable pub weighed : Opcode → Weights → Weights
@@ -113,15 +116,15 @@ weighed Bne w = w
 -- ---- what is left
 
 -- a macro's run: its rows, and that it leaves the image of s
-pub record Done (g : Ran) (s : State) (w : Weights) (rows : List Row) : Type 0 where
+pub record Done (L : Layout) (g : Ran) (s : State) (w : Weights) (rows : List Row) : Type 0 where
   pub shows : g .rows ≡ rows
-  pub related : Related s (g .state) w
+  pub related : Related L s (g .state) w
 
-module _ (r : List ℕ) (bits : BitState (zeros r)) where
+module _ (L : Layout) (K : Known L) (r : List ℕ) (bits : BitState (zeros r)) where
   -- the source's bit c written, and its code in the image
-  done : {g : Ran} (d : Operand) (D : Found r d) (c n k x y z : ℕ) (w : Weights) (rows : List Row) → c < 2 → n ≡ c
-      → g ≡ ran k (held x y z (set (rails r) (D .at) (code c))) rows
-      → weight x ≡ w .one → weight y ≡ w .two → weight z ≡ w .three → Done g (set (zeros r) (place d (zeros r)) n) w rows
+  done : {g : Ran} (d : Operand) (D : Found L r d) (c n k x y z : ℕ) (w : Weights) (rows : List Row) → c < 2 → n ≡ c
+      → g ≡ ran k (held x y z (set (rails L r) (D .at) (code L c))) rows
+      → weight x ≡ w .one → weight y ≡ w .two → weight z ≡ w .three → Done L g (set (zeros r) (place d (zeros r)) n) w rows
   done d D c n k x y z w rows h en e wx wy wz =
       record {
         shows = ap (λ (g : Ran). g .rows) e;
@@ -132,7 +135,7 @@ module _ (r : List ℕ) (bits : BitState (zeros r)) where
           z = z;
           bits = bits-set (zeros r) (plus4 (D .at)) c bits (sensitive-bit (plus4 (D .at)) c (D .sensitive) (omega arith));
           source = ap₂ (set (zeros r)) (D .names) en;
-          image = ap (λ (g : Ran). g .state) e ∙ ap (held x y z) (write-sensitive r bits (D .at) c (D .sensitive));
+          image = ap (λ (g : Ran). g .state) e ∙ ap (held x y z) (write-sensitive L r bits (D .at) c (D .sensitive));
           one = wx;
           two = wy;
           three = wz;
@@ -142,78 +145,78 @@ module _ (r : List ℕ) (bits : BitState (zeros r)) where
   -- one macro from an image whose scratch registers hold x, y and z
   module _ (d : Operand) (hd : SensitivePlace d) (k x y z : ℕ) (w : Weights) (wx : weight x ≡ w .one) (wy : weight y ≡ w .two) (wz : weight z ≡ w .three) where
     copy-done : (a : Operand) → SensitiveArgument a
-        → Done (exec (copy d (coded a)) k (held x y z (rails r))) (set (zeros r) (place d (zeros r)) (argument Marked a (zeros r)))
+        → Done L (exec (copy d (coded L a)) k (held x y z (rails L r))) (set (zeros r) (place d (zeros r)) (argument Marked a (zeros r)))
         (weights (w .one) (w .two) 1) (copyShown a k (w .three) (zeros r) (weight (address d (zeros r))))
     unfolding copy copyShown
     copy-done a ha =
-        let A = loaded r bits a ha in
-        let D = found r bits d hd in
+        let A = loaded L K r bits a ha in
+        let D = found L r bits d hd in
         let c = argument Marked a (zeros r) in
         let w3 = ap (λ (n : ℕ). loadShown a k n (zeros r)) wz in
-        done d D c c _ x y (code c) _ _ (A .bit) refl
-        (exec-then (load 3 (coded a)) (writeBack 3 d) k (held x y z (rails r))
-        (A .loads r3 k x y z ∙ ap (ran (loadEnd a k) (held x y (code c) (rails r))) w3)
-        (write-back-shown r3 d c (getD r (D .at) 0) (A .bit) (D .bit) (loadEnd a k) x y (code c) (rails r) (D .at) (address d (zeros r)) refl (D .holds) (D .destination)))
-        wx wy (code-weight c (A .bit))
+        done d D c c _ x y (code L c) _ _ (A .bit) refl
+        (exec-then (load 3 (coded L a)) (writeBack 3 d) k (held x y z (rails L r))
+        (A .loads r3 k x y z ∙ ap (ran (loadEnd a k) (held x y (code L c) (rails L r))) w3)
+        (write-back-shown L K r3 d c (getD r (D .at) 0) (A .bit) (D .bit) (loadEnd a k) x y (code L c) (rails L r) (D .at) (address d (zeros r)) refl (D .holds) (D .destination)))
+        wx wy (code-weight L K c (A .bit))
 
     negate-done : (a b : Operand) → SensitiveArgument a
-        → Done (exec (negate d (coded a)) k (held x y z (rails r))) (set (zeros r) (place d (zeros r)) (alu Marked Not (argument Marked a (zeros r)) (argument Marked b (zeros r))))
+        → Done L (exec (negate L d (coded L a)) k (held x y z (rails L r))) (set (zeros r) (place d (zeros r)) (alu Marked Not (argument Marked a (zeros r)) (argument Marked b (zeros r))))
         (weights 1 (w .two) (w .three)) (negateShown a k (w .one) (zeros r) (weight (address d (zeros r))))
     unfolding negate negateShown alu
     negate-done a b ha =
-        let A = loaded r bits a ha in
-        let D = found r bits d hd in
+        let A = loaded L K r bits a ha in
+        let D = found L r bits d hd in
         let n = argument Marked a (zeros r) in
         let c = alu Marked Not n 0 in
         let w1 = ap (λ (n : ℕ). loadShown a k n (zeros r)) wx in
-        done d D c (alu Marked Not n (argument Marked b (zeros r))) _ (flipped (code n)) y z _ _ (not-bit n (A .bit)) refl
-        (exec-then (load 1 (coded a)) (flip ++ writeBack 1 d) k (held x y z (rails r))
-        (A .loads r1 k x y z ∙ ap (ran (loadEnd a k) (held (code n) y z (rails r))) w1)
-        (exec-then flip (writeBack 1 d) (loadEnd a k) (held (code n) y z (rails r))
-        (flip-shown n (A .bit) (loadEnd a k) y z (rails r))
-        (write-back-shown r1 d c (getD r (D .at) 0) (not-bit n (A .bit)) (D .bit) (flipEnd (loadEnd a k)) (flipped (code n)) y z (rails r) (D .at) (address d (zeros r))
-        (flipped-code n (A .bit)) (D .holds) (D .destination))))
-        (flipped-weight n (A .bit)) wy wz
+        done d D c (alu Marked Not n (argument Marked b (zeros r))) _ (flipped L (code L n)) y z _ _ (not-bit L K n (A .bit)) refl
+        (exec-then (load 1 (coded L a)) (flip L ++ writeBack 1 d) k (held x y z (rails L r))
+        (A .loads r1 k x y z ∙ ap (ran (loadEnd a k) (held (code L n) y z (rails L r))) w1)
+        (exec-then (flip L) (writeBack 1 d) (loadEnd a k) (held (code L n) y z (rails L r))
+        (flip-shown L K n (A .bit) (loadEnd a k) y z (rails L r))
+        (write-back-shown L K r1 d c (getD r (D .at) 0) (not-bit L K n (A .bit)) (D .bit) (flipEnd (loadEnd a k)) (flipped L (code L n)) y z (rails L r) (D .at) (address d (zeros r))
+        (flipped-code L K n (A .bit)) (D .holds) (D .destination))))
+        (flipped-weight L K n (A .bit)) wy wz
 
     lookup-done : (o : ℕ) → o < 3 → (a b : Operand) → SensitiveArgument a → SensitiveArgument b
-        → Done (exec (lookup (tableAt o) d (coded a) (coded b)) k (held x y z (rails r)))
+        → Done L (exec (lookup L (tableAt L o) d (coded L a) (coded L b)) k (held x y z (rails L r)))
         (set (zeros r) (place d (zeros r)) (alu Marked (tableOp o) (argument Marked a (zeros r)) (argument Marked b (zeros r))))
-        (weights 2 1 1) (lookupShown a b k w (zeros r) (tableWeight o) (weight (address d (zeros r))))
+        (weights 2 1 1) (lookupShown L a b k w (zeros r) (tableWeight o) (weight (address d (zeros r))))
     unfolding lookup lookupShown
     lookup-done o ho a b ha hb =
-        let A = loaded r bits a ha in
-        let B = loaded r bits b hb in
-        let D = found r bits d hd in
-        let t = tableAt o in
+        let A = loaded L K r bits a ha in
+        let B = loaded L K r bits b hb in
+        let D = found L r bits d hd in
+        let t = tableAt L o in
         let m = argument Marked a (zeros r) in
         let n = argument Marked b (zeros r) in
         let c = alu Marked (tableOp o) m n in
-        let hc = table-bit o m n ho (A .bit) (B .bit) in
-        let i = joinedIndex (code m) (code n) in
-        let at = 284 + slot o m n in
-        let inside = slot-low o m n ho (A .bit) (B .bit) in
-        let points : 288 + slot o m n % 256 ≡ plus4 at = omega arith in
-        let holds : getD (rails r) at 0 ≡ code c =
-        mapAt-getD imageAt 4 r at (omega (arith, tail-length r bits)) ∙ image-page (slot o m n) (getD r at 0) ∙ slot-holds o m n ho (A .bit) (B .bit) in
+        let hc = table-bit L K o m n ho (A .bit) (B .bit) in
+        let i = joinedIndex L (code L m) (code L n) in
+        let at = 284 + slot L o m n in
+        let inside = slot-low L K o m n ho (A .bit) (B .bit) in
+        let points : 288 + slot L o m n % 256 ≡ plus4 at = omega arith in
+        let holds : getD (rails L r) at 0 ≡ code L c =
+        mapAt-getD (imageAt L) 4 r at (omega (arith, tail-length L r bits)) ∙ image-page L (slot L o m n) (getD r at 0) ∙ slot-holds L K o m n ho (A .bit) (B .bit) in
         let w1 = ap (λ (n : ℕ). loadShown a k n (zeros r)) wx in
-        let w2 = ap (λ (n : ℕ). loadShown b (secondAt a k) n (zeros r)) wy in
-        done d D c c _ i (low (code n)) (code c) _ _ hc refl
-        (exec-then (load 1 (coded a)) (scale ++ (load 2 (coded b) ++ (combine ++ (fetch t ++ writeBack 3 d)))) k (held x y z (rails r))
-        (A .loads r1 k x y z ∙ ap (ran (loadEnd a k) (held (code m) y z (rails r))) w1)
-        (exec-then scale (load 2 (coded b) ++ (combine ++ (fetch t ++ writeBack 3 d))) (loadEnd a k) (held (code m) y z (rails r))
-        (scale-shown m (A .bit) (loadEnd a k) y z (rails r))
-        (exec-then (load 2 (coded b)) (combine ++ (fetch t ++ writeBack 3 d)) (secondAt a k) (held (scaled (code m)) y z (rails r))
-        (B .loads r2 (secondAt a k) (scaled (code m)) y z ∙ ap (ran (combineAt a b k) (held (scaled (code m)) (code n) z (rails r))) w2)
-        (exec-then combine (fetch t ++ writeBack 3 d) (combineAt a b k) (held (scaled (code m)) (code n) z (rails r))
-        (combine-shown m n (A .bit) (B .bit) (combineAt a b k) z (rails r))
-        (exec-then (fetch t) (writeBack 3 d) (fetchAt a b k) (held i (low (code n)) z (rails r))
-        (fetch-shown o m n c ho (A .bit) (B .bit) hc (fetchAt a b k) (low (code n)) z (w .three) (rails r) at wz points holds)
-        (write-back-shown r3 d c (getD r (D .at) 0) hc (D .bit) (writeBackAt a b k) i (low (code n)) (code c) (rails r) (D .at) (address d (zeros r)) refl (D .holds) (D .destination)))))))
-        (index-weight o m n ho (A .bit) (B .bit)) (low-weight n (B .bit)) (code-weight c hc)
+        let w2 = ap (λ (n : ℕ). loadShown b (secondAt L a k) n (zeros r)) wy in
+        done d D c c _ i (low L (code L n)) (code L c) _ _ hc refl
+        (exec-then (load 1 (coded L a)) (scale L ++ (load 2 (coded L b) ++ (combine L ++ (fetch t ++ writeBack 3 d)))) k (held x y z (rails L r))
+        (A .loads r1 k x y z ∙ ap (ran (loadEnd a k) (held (code L m) y z (rails L r))) w1)
+        (exec-then (scale L) (load 2 (coded L b) ++ (combine L ++ (fetch t ++ writeBack 3 d))) (loadEnd a k) (held (code L m) y z (rails L r))
+        (scale-shown L K m (A .bit) (loadEnd a k) y z (rails L r))
+        (exec-then (load 2 (coded L b)) (combine L ++ (fetch t ++ writeBack 3 d)) (secondAt L a k) (held (scaled L (code L m)) y z (rails L r))
+        (B .loads r2 (secondAt L a k) (scaled L (code L m)) y z ∙ ap (ran (combineAt L a b k) (held (scaled L (code L m)) (code L n) z (rails L r))) w2)
+        (exec-then (combine L) (fetch t ++ writeBack 3 d) (combineAt L a b k) (held (scaled L (code L m)) (code L n) z (rails L r))
+        (combine-shown L K m n (A .bit) (B .bit) (combineAt L a b k) z (rails L r))
+        (exec-then (fetch t) (writeBack 3 d) (fetchAt L a b k) (held i (low L (code L n)) z (rails L r))
+        (fetch-shown L K o m n c ho (A .bit) (B .bit) hc (fetchAt L a b k) (low L (code L n)) z (w .three) (rails L r) at wz points holds)
+        (write-back-shown L K r3 d c (getD r (D .at) 0) hc (D .bit) (writeBackAt L a b k) i (low L (code L n)) (code L c) (rails L r) (D .at) (address d (zeros r)) refl (D .holds) (D .destination)))))))
+        (index-weight L K o m n ho (A .bit) (B .bit)) (low-weight L K n (B .bit)) (code-weight L K c hc)
 
   pub macro-done : (op : Opcode) (d a b : Operand) → MarkedOperands op d a b → (k x y z : ℕ) (w : Weights) → weight x ≡ w .one → weight y ≡ w .two → weight z ≡ w .three
-      → Done (exec (macro op d (coded a) (coded b)) k (held x y z (rails r)))
-      (set (zeros r) (place d (zeros r)) (alu Marked op (argument Marked a (zeros r)) (argument Marked b (zeros r)))) (weighed op w) (shown op d a b k (zeros r) w)
+      → Done L (exec (macro L op d (coded L a) (coded L b)) k (held x y z (rails L r)))
+      (set (zeros r) (place d (zeros r)) (alu Marked op (argument Marked a (zeros r)) (argument Marked b (zeros r)))) (weighed op w) (shown L op d a b k (zeros r) w)
   unfolding macro weighed shown alu hasMacro fills
   macro-done Nop d a b M k x y z w wx wy wz = absurd (M .able)
   macro-done Jmp d a b M k x y z w wx wy wz = absurd (M .able)
@@ -231,14 +234,14 @@ module _ (r : List ℕ) (bits : BitState (zeros r)) where
 
 -- ---- the same is shown in states that agree in the public places
 
-module _ (s t : State) (h : SamePublic s t) where
+module _ (L : Layout) (s t : State) (h : SamePublic s t) where
   lookup-same : (d a b : Operand) → SensitivePlace d → SensitiveArgument a → SensitiveArgument b → (k n : ℕ) (w : Weights)
-      → lookupShown a b k w s n (weight (address d s)) ≡ lookupShown a b k w t n (weight (address d t))
+      → lookupShown L a b k w s n (weight (address d s)) ≡ lookupShown L a b k w t n (weight (address d t))
   unfolding lookupShown
   lookup-same d a b hd ha hb k n w =
-      rw (address-same s t h d (steady-place d hd), load-same s t h a ha k (w .one), load-same s t h b hb (secondAt a k) (w .two))
+      rw (address-same s t h d (steady-place d hd), load-same s t h a ha k (w .one), load-same s t h b hb (secondAt L a k) (w .two))
 
-  pub shown-same : (op : Opcode) (d a b : Operand) → MarkedOperands op d a b → (k : ℕ) (w : Weights) → shown op d a b k s w ≡ shown op d a b k t w
+  pub shown-same : (op : Opcode) (d a b : Operand) → MarkedOperands op d a b → (k : ℕ) (w : Weights) → shown L op d a b k s w ≡ shown L op d a b k t w
   unfolding shown copyShown negateShown fills
   shown-same Nop d a b M k w = refl
   shown-same Jmp d a b M k w = refl
@@ -256,40 +259,45 @@ module _ (s t : State) (h : SamePublic s t) where
 
 -- ---- a macro is straight
 
-piece-straight : (t n : ℕ) (d : Operand) → (Straight scale × Straight combine) × (Straight (fetch t) × (Straight flip × Straight (writeBack n d)))
+shifts-straight : (c : Bool) → Straight (shifts c)
+unfolding shifts next taken
+shifts-straight true = ((λ k s. refl), tt)
+shifts-straight false = ((λ k s. refl), ((λ k s. refl), tt))
+
+piece-straight : (L : Layout) (t n : ℕ) (d : Operand) → (Straight (scale L) × Straight (combine L)) × (Straight (fetch t) × (Straight (flip L) × Straight (writeBack n d)))
 unfolding scale combine fetch flip writeBack next taken
-piece-straight t n d = (
-  (((λ k s. refl), ((λ k s. refl), ((λ k s. refl), tt))), ((λ k s. refl), ((λ k s. refl), tt))),
+piece-straight L t n d = (
+  (((λ k s. refl), shifts-straight (L .spaced)), ((λ k s. refl), ((λ k s. refl), tt))),
   (((λ k s. refl), ((λ k s. refl), tt)), (((λ k s. refl), tt), ((λ k s. refl), ((λ k s. refl), tt)))),
 )
 
-lookup-straight : (t : ℕ) (d a b : Operand) → Straight (lookup t d a b)
+lookup-straight : (L : Layout) (t : ℕ) (d a b : Operand) → Straight (lookup L t d a b)
 unfolding lookup
-lookup-straight t d a b =
-    let P = piece-straight t 3 d in
-    straight-append (load 1 a) (scale ++ (load 2 b ++ (combine ++ (fetch t ++ writeBack 3 d)))) (load-straight 1 a)
-    (straight-append scale (load 2 b ++ (combine ++ (fetch t ++ writeBack 3 d))) (P .0 .0)
-    (straight-append (load 2 b) (combine ++ (fetch t ++ writeBack 3 d)) (load-straight 2 b)
-    (straight-append combine (fetch t ++ writeBack 3 d) (P .0 .1)
+lookup-straight L t d a b =
+    let P = piece-straight L t 3 d in
+    straight-append (load 1 a) (scale L ++ (load 2 b ++ (combine L ++ (fetch t ++ writeBack 3 d)))) (load-straight 1 a)
+    (straight-append (scale L) (load 2 b ++ (combine L ++ (fetch t ++ writeBack 3 d))) (P .0 .0)
+    (straight-append (load 2 b) (combine L ++ (fetch t ++ writeBack 3 d)) (load-straight 2 b)
+    (straight-append (combine L) (fetch t ++ writeBack 3 d) (P .0 .1)
     (straight-append (fetch t) (writeBack 3 d) (P .1 .0) (P .1 .1 .1)))))
 
-pub macro-straight : (op : Opcode) (d a b : Operand) → Straight (macro op d a b)
+pub macro-straight : (L : Layout) (op : Opcode) (d a b : Operand) → Straight (macro L op d a b)
 unfolding macro negate copy
-macro-straight Nop d a b = tt
-macro-straight Jmp d a b = tt
-macro-straight Not d a b =
-    let P = piece-straight 0 1 d in
-    straight-append (load 1 a) (flip ++ writeBack 1 d) (load-straight 1 a) (straight-append flip (writeBack 1 d) (P .1 .1 .0) (P .1 .1 .1))
-macro-straight Mov d a b = straight-append (load 3 a) (writeBack 3 d) (load-straight 3 a) (piece-straight 0 3 d .1 .1 .1)
-macro-straight And d a b = lookup-straight (tableAt 0) d a b
-macro-straight Orr d a b = lookup-straight (tableAt 1) d a b
-macro-straight Xor d a b = lookup-straight (tableAt 2) d a b
-macro-straight Lsl d a b = tt
-macro-straight Lsr d a b = tt
-macro-straight Add d a b = tt
-macro-straight Mul d a b = tt
-macro-straight Beq d a b = tt
-macro-straight Bne d a b = tt
+macro-straight L Nop d a b = tt
+macro-straight L Jmp d a b = tt
+macro-straight L Not d a b =
+    let P = piece-straight L 0 1 d in
+    straight-append (load 1 a) (flip L ++ writeBack 1 d) (load-straight 1 a) (straight-append (flip L) (writeBack 1 d) (P .1 .1 .0) (P .1 .1 .1))
+macro-straight L Mov d a b = straight-append (load 3 a) (writeBack 3 d) (load-straight 3 a) (piece-straight L 0 3 d .1 .1 .1)
+macro-straight L And d a b = lookup-straight L (tableAt L 0) d a b
+macro-straight L Orr d a b = lookup-straight L (tableAt L 1) d a b
+macro-straight L Xor d a b = lookup-straight L (tableAt L 2) d a b
+macro-straight L Lsl d a b = tt
+macro-straight L Lsr d a b = tt
+macro-straight L Add d a b = tt
+macro-straight L Mul d a b = tt
+macro-straight L Beq d a b = tt
+macro-straight L Bne d a b = tt
 
 -- a marked line goes on to the next
 pub next-marked : (op : Opcode) (d a b : Operand) (t : Target) → T (hasMacro op) → (k : ℕ) (s : State) → next (mk Marked op d a b t) k s ≡ suc k

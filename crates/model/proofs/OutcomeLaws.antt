@@ -1,6 +1,6 @@
 -- What an outcome that is no refusal says: an image that was made, an expansion that was written. Each test on the way passed, since the
--- other branch is a refusal. And what a run leaves where each test passes. Assumes nothing.
-use mathlib.Core.Path.{_≡_, refl, sym, ap}
+-- other branch is a refusal. And what a run leaves where each test passes, and what an entry point hands on. Assumes nothing.
+use mathlib.Core.Path.{_≡_, refl, sym, ap, _∙_}
 use mathlib.Core.Bool.{Bool, true, false, cond}
 use mathlib.Core.List.{List, [], _∷_, flatMap}
 use Prim.Native.Nat.{ℕ, _*_, _≤_}
@@ -13,11 +13,21 @@ use Rattle.model.specs.Answers.{Report, done, refused, counted, Outcome,
 use Rattle.model.specs.Places.{State}
 use Rattle.model.specs.Stored.{lines, lineCount, codes, programCheck}
 use Rattle.model.specs.Run.{run, runLeaves, runOutcome}
-use Rattle.model.specs.Images.{BitState, image, every, bitRight, carried}
-use Rattle.model.specs.Expansion.{expand, expandOutcome, written}
+use Rattle.model.specs.declared.Layout.{Layout}
+use Rattle.model.specs.Layouts.{neighbours, Known, near}
+use Rattle.model.specs.Images.{BitState, image, every, bitRight, carried, imageIn}
+use Rattle.model.specs.Expansion.{expand, expansionIn, written}
 use Rattle.model.specs.Marks.{markCheck}
 use Rattle.model.proofs.StoredLaws.{counted-count}
 use Rattle.model.proofs.BackLaws.{bits-right}
+
+-- ---- the layout that an entry point hands on
+
+pub neighbours-known : (L : Layout) → L ≡ neighbours → Known L
+neighbours-known L e = rw e near
+
+pub in-neighbours : (call : Layout → Outcome) (L : Layout) (x : Outcome) → L ≡ neighbours → x ≡ call L → x ≡ call neighbours
+in-neighbours call L x e w = w ∙ ap call e
 
 -- ---- one step back
 
@@ -72,9 +82,9 @@ carried-made right over from into result vs e =
     record { long = eqb-true _ _ (w1 .test); passes = w3 .test; made = sym (ap first-store (w3 .then)) }
 
 -- what `to_image` made is the image of a bit state
-pub image-made : (bits into v : State) (vs : List ℕ) → carried bitRight image bits into ≡ outcome (done vs) (v ∷ []) → BitState bits × (v ≡ image bits)
-image-made bits into v vs e =
-    let c = carried-made bitRight image bits into v vs e in
+pub image-made : (L : Layout) (bits into v : State) (vs : List ℕ) → imageIn L bits into ≡ outcome (done vs) (v ∷ []) → BitState bits × (v ≡ image L bits)
+image-made L bits into v vs e =
+    let c = carried-made bitRight (image L) bits into v vs e in
     (bits-right bits (c .long) (c .passes), c .made)
 
 -- ---- runs
@@ -87,18 +97,18 @@ run-outcome p k b n s t e h g = rw (e, eq-eqb (length s) stateSize h, le-ltb (le
 
 -- ---- expansions
 
-pub record Written (p out : List ℕ) (n : ℕ) (e : List ℕ) : Type 0 where
+pub record Written (L : Layout) (p out : List ℕ) (n : ℕ) (e : List ℕ) : Type 0 where
   pub values : List ℕ
   pub checked : markCheck p ≡ done values
-  pub room : length (expand (lines p)) ≤ lineCount out
-  pub count : n ≡ length (expand (lines p))
-  pub listing : e ≡ atFront (flatMap codes (expand (lines p))) out
+  pub room : length (expand L (lines p)) ≤ lineCount out
+  pub count : n ≡ length (expand L (lines p))
+  pub listing : e ≡ atFront (flatMap codes (expand L (lines p))) out
 
-pub expansion-written : (p out : List ℕ) (n : ℕ) (e : List ℕ) → expandOutcome p out ≡ outcome (counted n) (e ∷ []) → Written p out n e
-unfolding expandOutcome written
-expansion-written p out n e h =
+pub expansion-written : (L : Layout) (p out : List ℕ) (n : ℕ) (e : List ℕ) → expansionIn L p out ≡ outcome (counted n) (e ∷ []) → Written L p out n e
+unfolding expansionIn written
+expansion-written L p out n e h =
     let w = went (markCheck p) _ (out ∷ []) h in
-    let w1 = passed-unless (ltb (lineCount out) (length (expand (lines p)))) _ 17 0 (out ∷ []) (w .then) in
+    let w1 = passed-unless (ltb (lineCount out) (length (expand L (lines p)))) _ 17 0 (out ∷ []) (w .then) in
     record {
       values = w .values;
       checked = w .check;

@@ -1,20 +1,25 @@
 -- The pieces of the macros, done line after line on a state whose first four places are written out, and their rows by public numbers
 -- alone. Each is computed; what a bit could change is the finite part's. Assumes nothing.
 use mathlib.Core.Path.{_≡_, refl, ap, _∙_}
+use mathlib.Core.Bool.{Bool, true, false}
 use mathlib.Core.List.{List, [], _∷_}
 use Prim.Native.Nat.{ℕ, suc, _+_, _%_, _<_}
 use lib.Bits.{xor-zero-r, bitOr}
 use lib.Count.{ones}
 use lib.ListN.{length, getD, set}
 use lib.Seq.{getD-set-same, set-set}
+use Rattle.model.specs.declared.Opcode.the-variants.{And}
 use Rattle.model.specs.declared.Operand.{Operand}
+use Rattle.model.specs.declared.Operand.the-variants.{Literal, Register}
+use Rattle.model.specs.declared.Layout.{Layout}
+use Rattle.model.specs.Layouts.{Known}
 use Rattle.model.specs.Places.{State, place, address, value}
 use Rattle.model.specs.Step.{Row, row, after, result, argument, alu, weight, distance}
 use Rattle.model.specs.Code.{code}
-use Rattle.model.specs.Expansion.{load, scale, combine, fetch, flip, writeBack}
+use Rattle.model.specs.Expansion.{markedLine, load, shifts, scale, combine, fetch, flip, writeBack}
 use Rattle.model.proofs.Runs.{ran}
-use Rattle.model.proofs.Straight.{exec}
-use Rattle.model.proofs.Finite.{low, twice, scaled, joinedIndex, flipped, slot, tableAt, tableWeight, code-weight, code-loaded, code-cleared, low-weight, low-distance, twice-weight, twice-distance, scaled-weight, scaled-distance, flipped-weight, flipped-distance, index-weight, index-distance, slot-weight}
+use Rattle.model.proofs.Straight.{exec, exec-then}
+use Rattle.model.proofs.Finite.{low, shifted, scaled, joinedIndex, flipped, slot, tableAt, tableWeight, code-weight, code-loaded, code-cleared, low-weight, low-distance, twice-weight, twice-distance, twice-twice-weight, twice-twice-distance, flipped-weight, flipped-distance, index-weight, index-distance, slot-weight}
 
 -- a state by its first four places, of which r0 is 0
 abbrev pub held : ℕ → ℕ → ℕ → List ℕ → State
@@ -68,21 +73,38 @@ load-exec r3 a k x y z r v u A = simp (A .reads, A .stands)
 
 -- ---- scale, join, flip: on registers alone
 
-abbrev pub scaleEnd : ℕ → ℕ
-scaleEnd k = suc (suc (suc k))
+abbrev shiftsEnd : Bool → ℕ → ℕ
+shiftsEnd true k = suc k
+shiftsEnd false k = suc (suc k)
 
-unfoldable pub scaleShown : ℕ → List Row
-scaleShown k = six k 1 0 0 0 0 ∷ six (suc k) 1 2 0 0 0 ∷ six (suc (suc k)) 1 2 0 0 0 ∷ []
+abbrev pub scaleEnd : Layout → ℕ → ℕ
+scaleEnd L k = shiftsEnd (L .spaced) (suc k)
 
-scale-exec : (k x y z : ℕ) (r : List ℕ) → exec scale k (held x y z r) ≡ ran (scaleEnd k) (held (scaled x) y z r)
-    (shows k (low x) x 0 0 0 ∷ shows (suc k) (twice (low x)) (low x) 0 0 0 ∷ shows (suc (suc k)) (scaled x) (twice (low x)) 0 0 0 ∷ [])
-unfolding scale exec row after result alu argument value place address
-scale-exec k x y z r = refl
+abbrev shiftsShown : Bool → ℕ → List Row
+shiftsShown true k = six k 1 2 0 0 0 ∷ []
+shiftsShown false k = six k 1 2 0 0 0 ∷ six (suc k) 1 2 0 0 0 ∷ []
 
-pub scale-shown : (a : ℕ) → a < 2 → (k y z : ℕ) (r : List ℕ) → exec scale k (held (code a) y z r) ≡ ran (scaleEnd k) (held (scaled (code a)) y z r) (scaleShown k)
-unfolding scaleShown ones
-scale-shown a h k y z r =
-    scale-exec k (code a) y z r ∙ rw (low-weight a h, low-distance a h, twice-weight a h, twice-distance a h, scaled-weight a h, scaled-distance a h)
+unfoldable pub scaleShown : Layout → ℕ → List Row
+scaleShown L k = six k 1 0 0 0 0 ∷ shiftsShown (L .spaced) (suc k)
+
+-- by how far apart the bits are
+shifts-shown : (L : Layout) (K : Known L) (a : ℕ) → a < 2 → (c : Bool) (k y z : ℕ) (r : List ℕ)
+    → exec (shifts c) k (held (low L (code L a)) y z r) ≡ ran (shiftsEnd c k) (held (shifted c (low L (code L a))) y z r) (shiftsShown c k)
+unfolding shifts exec row after result alu argument value place address ones
+shifts-shown L K a h true k y z r = rw (twice-weight L K a h, twice-distance L K a h)
+shifts-shown L K a h false k y z r = rw (twice-weight L K a h, twice-distance L K a h, twice-twice-weight L K a h, twice-twice-distance L K a h)
+
+mask-shown : (L : Layout) (K : Known L) (a : ℕ) → a < 2 → (k y z : ℕ) (r : List ℕ)
+    → exec (markedLine And (Register 1) (Register 1) (Literal (L .mask)) ∷ []) k (held (code L a) y z r) ≡ ran (suc k) (held (low L (code L a)) y z r) (six k 1 0 0 0 0 ∷ [])
+unfolding exec row after result alu argument value place address ones
+mask-shown L K a h k y z r = rw (low-weight L K a h, low-distance L K a h)
+
+pub scale-shown : (L : Layout) (K : Known L) (a : ℕ) → a < 2 → (k y z : ℕ) (r : List ℕ)
+    → exec (scale L) k (held (code L a) y z r) ≡ ran (scaleEnd L k) (held (scaled L (code L a)) y z r) (scaleShown L k)
+unfolding scale scaleShown
+scale-shown L K a h k y z r =
+    exec-then (markedLine And (Register 1) (Register 1) (Literal (L .mask)) ∷ []) (shifts (L .spaced)) k (held (code L a) y z r)
+    (mask-shown L K a h k y z r) (shifts-shown L K a h (L .spaced) (suc k) y z r)
 
 abbrev pub combineEnd : ℕ → ℕ
 combineEnd k = suc (suc k)
@@ -90,17 +112,17 @@ combineEnd k = suc (suc k)
 unfoldable pub combineShown : ℕ → List Row
 combineShown k = six k 1 0 0 0 0 ∷ six (suc k) 2 1 0 0 0 ∷ []
 
-combine-exec : (k x y z : ℕ) (r : List ℕ) → exec combine k (held x y z r) ≡ ran (combineEnd k) (held (bitOr x (low y)) (low y) z r)
-    (shows k (low y) y 0 0 0 ∷ shows (suc k) (bitOr x (low y)) x 0 0 0 ∷ [])
+combine-exec : (L : Layout) (k x y z : ℕ) (r : List ℕ) → exec (combine L) k (held x y z r) ≡ ran (combineEnd k) (held (bitOr x (low L y)) (low L y) z r)
+    (shows k (low L y) y 0 0 0 ∷ shows (suc k) (bitOr x (low L y)) x 0 0 0 ∷ [])
 unfolding combine exec row after result alu argument value place address
-combine-exec k x y z r = refl
+combine-exec L k x y z r = refl
 
-pub combine-shown : (a b : ℕ) → a < 2 → b < 2 → (k z : ℕ) (r : List ℕ)
-    → exec combine k (held (scaled (code a)) (code b) z r) ≡ ran (combineEnd k) (held (joinedIndex (code a) (code b)) (low (code b)) z r) (combineShown k)
+pub combine-shown : (L : Layout) (K : Known L) (a b : ℕ) → a < 2 → b < 2 → (k z : ℕ) (r : List ℕ)
+    → exec (combine L) k (held (scaled L (code L a)) (code L b) z r) ≡ ran (combineEnd k) (held (joinedIndex L (code L a) (code L b)) (low L (code L b)) z r) (combineShown k)
 unfolding combineShown ones
-combine-shown a b ha hb k z r =
-    combine-exec k (scaled (code a)) (code b) z r
-    ∙ rw (low-weight b hb, low-distance b hb, index-weight 0 a b (lib.Dec.lit< tt) ha hb, index-distance 0 a b (lib.Dec.lit< tt) ha hb)
+combine-shown L K a b ha hb k z r =
+    combine-exec L k (scaled L (code L a)) (code L b) z r
+    ∙ rw (low-weight L K b hb, low-distance L K b hb, index-weight L K 0 a b (lib.Dec.lit< tt) ha hb, index-distance L K 0 a b (lib.Dec.lit< tt) ha hb)
 
 abbrev pub flipEnd : ℕ → ℕ
 flipEnd k = suc k
@@ -108,13 +130,13 @@ flipEnd k = suc k
 unfoldable pub flipShown : ℕ → List Row
 flipShown k = six k 1 2 0 0 0 ∷ []
 
-flip-exec : (k x y z : ℕ) (r : List ℕ) → exec flip k (held x y z r) ≡ ran (flipEnd k) (held (flipped x) y z r) (shows k (flipped x) x 0 0 0 ∷ [])
+flip-exec : (L : Layout) (k x y z : ℕ) (r : List ℕ) → exec (flip L) k (held x y z r) ≡ ran (flipEnd k) (held (flipped L x) y z r) (shows k (flipped L x) x 0 0 0 ∷ [])
 unfolding flip exec row after result alu argument value place address
-flip-exec k x y z r = refl
+flip-exec L k x y z r = refl
 
-pub flip-shown : (a : ℕ) → a < 2 → (k y z : ℕ) (r : List ℕ) → exec flip k (held (code a) y z r) ≡ ran (flipEnd k) (held (flipped (code a)) y z r) (flipShown k)
+pub flip-shown : (L : Layout) (K : Known L) (a : ℕ) → a < 2 → (k y z : ℕ) (r : List ℕ) → exec (flip L) k (held (code L a) y z r) ≡ ran (flipEnd k) (held (flipped L (code L a)) y z r) (flipShown k)
 unfolding flipShown ones
-flip-shown a h k y z r = flip-exec k (code a) y z r ∙ rw (flipped-weight a h, flipped-distance a h)
+flip-shown L K a h k y z r = flip-exec L k (code L a) y z r ∙ rw (flipped-weight L K a h, flipped-distance L K a h)
 
 -- ---- fetch: the entry at the index in r1
 
@@ -129,14 +151,14 @@ fetch-exec : (t k x y z : ℕ) (r : List ℕ) (i v : ℕ) → 288 + (x + t) % 25
 unfolding fetch exec row after result alu argument value place address
 fetch-exec t k x y z r i v e f = simp (e, f)
 
-pub fetch-shown : (o a b c : ℕ) → o < 3 → a < 2 → b < 2 → c < 2 → (k y z w : ℕ) (r : List ℕ) (i : ℕ)
-    → weight z ≡ w → 288 + slot o a b % 256 ≡ plus4 i → getD r i 0 ≡ code c
-    → exec (fetch (tableAt o)) k (held (joinedIndex (code a) (code b)) y z r)
-    ≡ ran (fetchEnd k) (held (joinedIndex (code a) (code b)) y (code c) r) (fetchShown k w (tableWeight o))
+pub fetch-shown : (L : Layout) (K : Known L) (o a b c : ℕ) → o < 3 → a < 2 → b < 2 → c < 2 → (k y z w : ℕ) (r : List ℕ) (i : ℕ)
+    → weight z ≡ w → 288 + slot L o a b % 256 ≡ plus4 i → getD r i 0 ≡ code L c
+    → exec (fetch (tableAt L o)) k (held (joinedIndex L (code L a) (code L b)) y z r)
+    ≡ ran (fetchEnd k) (held (joinedIndex L (code L a) (code L b)) y (code L c) r) (fetchShown k w (tableWeight o))
 unfolding fetchShown ones
-fetch-shown o a b c ho ha hb hc k y z w r i ez e f =
-    fetch-exec (tableAt o) k (joinedIndex (code a) (code b)) y z r i (code c) e f
-    ∙ rw (distance-zero z ∙ ez, code-weight c hc, code-loaded c hc, slot-weight o a b ho ha hb)
+fetch-shown L K o a b c ho ha hb hc k y z w r i ez e f =
+    fetch-exec (tableAt L o) k (joinedIndex L (code L a) (code L b)) y z r i (code L c) e f
+    ∙ rw (distance-zero z ∙ ez, code-weight L K c hc, code-loaded L K c hc, slot-weight L K o a b ho ha hb)
 
 -- ---- store: a destination whose place and address do not turn on the scratch registers nor on what it holds
 
@@ -161,9 +183,9 @@ write-back-exec r1 d k x y z r q w D = simp (D .names, D .stands, D .namesCleare
 write-back-exec r2 d k x y z r q w D = simp (D .names, D .stands, D .namesCleared, D .standsCleared, getD-set-same r q 0 0 (D .within), set-set r q 0 y)
 write-back-exec r3 d k x y z r q w D = simp (D .names, D .stands, D .namesCleared, D .standsCleared, getD-set-same r q 0 0 (D .within), set-set r q 0 z)
 
-pub write-back-shown : {n : ℕ} (S : Scratch n) (d : Operand) (c old : ℕ) → c < 2 → old < 2 → (k x y z : ℕ) (r : List ℕ) (q w : ℕ)
-    → got S x y z ≡ code c → getD r q 0 ≡ code old → Destination d r q w
-    → exec (writeBack n d) k (held x y z r) ≡ ran (writeBackEnd k) (held x y z (set r q (code c))) (writeBackShown k (weight w))
+pub write-back-shown : (L : Layout) (K : Known L) {n : ℕ} (S : Scratch n) (d : Operand) (c old : ℕ) → c < 2 → old < 2 → (k x y z : ℕ) (r : List ℕ) (q w : ℕ)
+    → got S x y z ≡ code L c → getD r q 0 ≡ code L old → Destination d r q w
+    → exec (writeBack n d) k (held x y z r) ≡ ran (writeBackEnd k) (held x y z (set r q (code L c))) (writeBackShown k (weight w))
 unfolding writeBackShown ones
-write-back-shown S d c old hc ho k x y z r q w eg eo D =
-    write-back-exec S d k x y z r q w D ∙ rw (eg, eo, code-cleared old ho, code-weight c hc, code-loaded c hc)
+write-back-shown L K S d c old hc ho k x y z r q w eg eo D =
+    write-back-exec S d k x y z r q w D ∙ rw (eg, eo, code-cleared L K old ho, code-weight L K c hc, code-loaded L K c hc)

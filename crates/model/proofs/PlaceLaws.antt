@@ -10,6 +10,7 @@ use native.Mathlib.Omega.{arith}
 use borrow.Author.Tests.{lt-ltb, le-ltb}
 use lib.ListN.{length, getD, set, length-set}
 use lib.Seq.{getD-set-same, getD-set-other}
+use Rattle.model.specs.declared.Layout.{Layout}
 use Rattle.model.specs.declared.Kind.{Kind}
 use Rattle.model.specs.declared.Kind.the-variants.{Neither, Public, Sensitive}
 use Rattle.model.specs.Places.{State, kind}
@@ -47,9 +48,9 @@ unfolding mapAt
 mapAt-length f i [] = refl
 mapAt-length f i (x ∷ l) = ap suc (mapAt-length f (suc i) l)
 
-pub image-length : (s : State) → length (image s) ≡ length s
+pub image-length : (L : Layout) (s : State) → length (image L s) ≡ length s
 unfolding image
-image-length s = mapAt-length imageAt 0 s
+image-length L s = mapAt-length (imageAt L) 0 s
 
 pub mapAt-getD : (f : ℕ → ℕ → ℕ) (i : ℕ) (l : List ℕ) (n : ℕ) → n < length l → getD (mapAt f i l) n 0 ≡ f (i + n) (getD l n 0)
 unfolding mapAt

@@ -8,6 +8,8 @@ use Prim.Native.Nat.{ℕ, zero, suc, _+_}
 use native.Mathlib.Omega.{arith}
 use lib.Dec.{T}
 use lib.ListN.{length, getElem?, drop, length-append}
+use Rattle.model.specs.declared.Layout.{Layout}
+use Rattle.model.specs.Layouts.{Known}
 use Rattle.model.specs.declared.Mark.{Mark}
 use Rattle.model.specs.declared.Mark.the-variants.{Unmarked, Marked}
 use Rattle.model.specs.declared.Opcode.{Opcode}
@@ -37,8 +39,8 @@ abbrev pub byMark {ℓ} : {A : Type ℓ} → Mark → A → A → A
 byMark Unmarked x y = x
 byMark Marked x y = y
 
-unfoldable pub lineRows : Line → ℕ → State → Weights → List Row
-lineRows l k s w = byMark (l .mark) (row l k s ∷ []) (shown (l .opcode) (l .destination) (l .first) (l .second) k s w)
+unfoldable pub lineRows : (L : Layout) → Line → ℕ → State → Weights → List Row
+lineRows L l k s w = byMark (l .mark) (row l k s ∷ []) (shown L (l .opcode) (l .destination) (l .first) (l .second) k s w)
 
 unfoldable pub lineWeights : Line → Weights → Weights
 lineWeights l w = byMark (l .mark) w (weighed (l .opcode) w)
@@ -46,148 +48,148 @@ lineWeights l w = byMark (l .mark) w (weighed (l .opcode) w)
 -- ---- one line
 
 -- source line k done by the expansion from a state v that is related to s
-record Lined (p : List Line) (k : ℕ) (l : Line) (s v : State) (w : Weights) : Type 0 where
-  steps : length (run (expand p) (size l) (start p k) v .rows) ≡ size l
-  stands : run (expand p) (size l) (start p k) v .at ≡ start p (next l k s)
-  shows : run (expand p) (size l) (start p k) v .rows ≡ lineRows l (start p k) s w
-  related : Related (after l s) (run (expand p) (size l) (start p k) v .state) (lineWeights l w)
+record Lined (L : Layout) (p : List Line) (k : ℕ) (l : Line) (s v : State) (w : Weights) : Type 0 where
+  steps : length (run (expand L p) (size L l) (start L p k) v .rows) ≡ size L l
+  stands : run (expand L p) (size L l) (start L p k) v .at ≡ start L p (next l k s)
+  shows : run (expand L p) (size L l) (start L p k) v .rows ≡ lineRows L l (start L p k) s w
+  related : Related L (after l s) (run (expand L p) (size L l) (start L p k) v .state) (lineWeights l w)
 
-line-marked : (p : List Line) (k : ℕ) (op : Opcode) (d a b : Operand) (t : Target) → getElem? p k ≡ some (mk Marked op d a b t) → MarkedOperands op d a b
+line-marked : (L : Layout) (K : Known L) (p : List Line) (k : ℕ) (op : Opcode) (d a b : Operand) (t : Target) → getElem? p k ≡ some (mk Marked op d a b t) → MarkedOperands op d a b
     → (r : List ℕ) (bits : BitState (zeros r)) (x y z : ℕ) (w : Weights) → weight x ≡ w .one → weight y ≡ w .two → weight z ≡ w .three
-    → Lined p k (mk Marked op d a b t) (zeros r) (held x y z (rails r)) w
+    → Lined L p k (mk Marked op d a b t) (zeros r) (held x y z (rails L r)) w
 unfolding lineRows lineWeights expand size partOf after result
-line-marked p k op d a b t e M r bits x y z w wx wy wz =
+line-marked L K p k op d a b t e M r bits x y z w wx wy wz =
     let l = mk Marked op d a b t in
-    let ls = macro op d (coded a) (coded b) in
-    let v = held x y z (rails r) in
-    let g = run-straight (expand p) ls (drop (start p (suc k)) (expand p)) (start p k) v (part-at (start p) p k l e) (macro-straight op d (coded a) (coded b)) in
-    let D = macro-done r bits op d a b M (start p k) x y z w wx wy wz in
+    let ls = macro L op d (coded L a) (coded L b) in
+    let v = held x y z (rails L r) in
+    let g = run-straight (expand L p) ls (drop (start L p (suc k)) (expand L p)) (start L p k) v (part-at L (start L p) p k l e) (macro-straight L op d (coded L a) (coded L b)) in
+    let D = macro-done L K r bits op d a b M (start L p k) x y z w wx wy wz in
     record {
-      steps = ap (λ (q : Ran). length (q .rows)) g ∙ exec-rows ls (start p k) v;
-      stands = ap (λ (q : Ran). q .at) g ∙ exec-at ls (start p k) v ∙ sym (start-suc p k l e) ∙ ap (start p) (sym (next-marked op d a b t (M .able) k (zeros r)));
+      steps = ap (λ (q : Ran). length (q .rows)) g ∙ exec-rows ls (start L p k) v;
+      stands = ap (λ (q : Ran). q .at) g ∙ exec-at ls (start L p k) v ∙ sym (start-suc L p k l e) ∙ ap (start L p) (sym (next-marked op d a b t (M .able) k (zeros r)));
       shows = ap (λ (q : Ran). q .rows) g ∙ D .shows;
-      related = subst (λ (q : Ran). Related (after l (zeros r)) (q .state) (weighed op w)) (sym g) (D .related);
+      related = subst (λ (q : Ran). Related L (after l (zeros r)) (q .state) (weighed op w)) (sym g) (D .related);
     }
 
-goal-moved : (p : List Line) (t : Target) → targetLine (newTarget (start p) t) ≡ start p (targetLine t)
+goal-moved : (L : Layout) (p : List Line) (t : Target) → targetLine (newTarget (start L p) t) ≡ start L p (targetLine t)
 unfolding targetLine newTarget start
-goal-moved [] NoTarget = refl
-goal-moved (l ∷ p) NoTarget = refl
-goal-moved p (ToLine t) = refl
+goal-moved L [] NoTarget = refl
+goal-moved L (l ∷ p) NoTarget = refl
+goal-moved L p (ToLine t) = refl
 
-next-moved : (p : List Line) (k : ℕ) (op : Opcode) (d a b : Operand) (t : Target) (s : State) → start p (suc k) ≡ start p k + 1
-    → next (mk Unmarked op d a b (newTarget (start p) t)) (start p k) s ≡ start p (next (mk Unmarked op d a b t) k s)
+next-moved : (L : Layout) (p : List Line) (k : ℕ) (op : Opcode) (d a b : Operand) (t : Target) (s : State) → start L p (suc k) ≡ start L p k + 1
+    → next (mk Unmarked op d a b (newTarget (start L p) t)) (start L p k) s ≡ start L p (next (mk Unmarked op d a b t) k s)
 unfolding next
-next-moved p k op d a b t s e = go (taken op (value a s) (value b s))
+next-moved L p k op d a b t s e = go (taken op (value a s) (value b s))
   where
-    go : (c : Bool) → cond c (targetLine (newTarget (start p) t)) (suc (start p k)) ≡ start p (cond c (targetLine t) (suc k))
-    go true = goal-moved p t
+    go : (c : Bool) → cond c (targetLine (newTarget (start L p) t)) (suc (start L p k)) ≡ start L p (cond c (targetLine t) (suc k))
+    go true = goal-moved L p t
     go false = omega (arith, e)
 
-line-plain : (p : List Line) (k : ℕ) (op : Opcode) (d a b : Operand) (t : Target) → getElem? p k ≡ some (mk Unmarked op d a b t) → Plain d a b
+line-plain : (L : Layout) (p : List Line) (k : ℕ) (op : Opcode) (d a b : Operand) (t : Target) → getElem? p k ≡ some (mk Unmarked op d a b t) → Plain d a b
     → (r : List ℕ) (bits : BitState (zeros r)) (x y z : ℕ) (w : Weights) → weight x ≡ w .one → weight y ≡ w .two → weight z ≡ w .three
-    → Lined p k (mk Unmarked op d a b t) (zeros r) (held x y z (rails r)) w
+    → Lined L p k (mk Unmarked op d a b t) (zeros r) (held x y z (rails L r)) w
 unfolding lineRows lineWeights expand size partOf row after result
-line-plain p k op d a b t e P r bits x y z w wx wy wz =
+line-plain L p k op d a b t e P r bits x y z w wx wy wz =
     let l = mk Unmarked op d a b t in
-    let m = mk Unmarked op d a b (newTarget (start p) t) in
-    let v = held x y z (rails r) in
-    let h = same-held r bits x y z in
-    let lv = held-length r bits x y z w wx wy wz in
-    let g : run (expand p) 1 (start p k) v ≡ ran (next m (start p k) v) (after m v) (row m (start p k) v ∷ []) =
-    step-run (expand p) (start p k) v m (drop-head (expand p) (start p k) m (drop (start p (suc k)) (expand p)) (part-at (start p) p k l e)) 0
-    ∙ ap (push (row m (start p k) v)) (run-zero (expand p) (next m (start p k) v) (after m v)) in
+    let m = mk Unmarked op d a b (newTarget (start L p) t) in
+    let v = held x y z (rails L r) in
+    let h = same-held L r bits x y z in
+    let lv = held-length L r bits x y z w wx wy wz in
+    let g : run (expand L p) 1 (start L p k) v ≡ ran (next m (start L p k) v) (after m v) (row m (start L p k) v ∷ []) =
+    step-run (expand L p) (start L p k) v m (drop-head (expand L p) (start L p k) m (drop (start L p (suc k)) (expand L p)) (part-at L (start L p) p k l e)) 0
+    ∙ ap (push (row m (start L p k) v)) (run-zero (expand L p) (next m (start L p k) v) (after m v)) in
     record {
       steps = ap (λ (q : Ran). length (q .rows)) g;
-      stands = ap (λ (q : Ran). q .at) g ∙ sym (next-same (zeros r) v (bits .long) lv h d a b P op (newTarget (start p) t) (start p k))
-          ∙ next-moved p k op d a b t (zeros r) (start-suc p k l e);
-      shows = ap (λ (q : Ran). q .rows) g ∙ ap (λ (q : Row). q ∷ []) (sym (row-same (zeros r) v (bits .long) lv h d a b P op (newTarget (start p) t) (start p k)));
-      related = subst (λ (q : Ran). Related (after l (zeros r)) (q .state) w) (sym g) (plain-related r bits x y z w wx wy wz op d a b t P);
+      stands = ap (λ (q : Ran). q .at) g ∙ sym (next-same (zeros r) v (bits .long) lv h d a b P op (newTarget (start L p) t) (start L p k))
+          ∙ next-moved L p k op d a b t (zeros r) (start-suc L p k l e);
+      shows = ap (λ (q : Ran). q .rows) g ∙ ap (λ (q : Row). q ∷ []) (sym (row-same (zeros r) v (bits .long) lv h d a b P op (newTarget (start L p) t) (start L p k)));
+      related = subst (λ (q : Ran). Related L (after l (zeros r)) (q .state) w) (sym g) (plain-related L r bits x y z w wx wy wz op d a b t P);
     }
 
-line-by : (p : List Line) (n k : ℕ) (m : Mark) (op : Opcode) (d a b : Operand) (t : Target) → getElem? p k ≡ some (mk m op d a b t)
+line-by : (L : Layout) (K : Known L) (p : List Line) (n k : ℕ) (m : Mark) (op : Opcode) (d a b : Operand) (t : Target) → getElem? p k ≡ some (mk m op d a b t)
     → T (correct (mk m op d a b t)) × (markFault n (mk m op d a b t) ≡ 0)
     → (r : List ℕ) (bits : BitState (zeros r)) (x y z : ℕ) (w : Weights) → weight x ≡ w .one → weight y ≡ w .two → weight z ≡ w .three
-    → Lined p k (mk m op d a b t) (zeros r) (held x y z (rails r)) w
-line-by p n k Unmarked op d a b t e c r bits x y z w wx wy wz = line-plain p k op d a b t e (plain n op d a b t (c .0) (c .1)) r bits x y z w wx wy wz
-line-by p n k Marked op d a b t e c r bits x y z w wx wy wz = line-marked p k op d a b t e (marked-operands n op d a b t (c .0) (c .1)) r bits x y z w wx wy wz
+    → Lined L p k (mk m op d a b t) (zeros r) (held x y z (rails L r)) w
+line-by L K p n k Unmarked op d a b t e c r bits x y z w wx wy wz = line-plain L p k op d a b t e (plain n op d a b t (c .0) (c .1)) r bits x y z w wx wy wz
+line-by L K p n k Marked op d a b t e c r bits x y z w wx wy wz = line-marked L K p k op d a b t e (marked-operands n op d a b t (c .0) (c .1)) r bits x y z w wx wy wz
 
-line-done : (p : List Line) (n : ℕ) → AllRight n p → (k : ℕ) (l : Line) → getElem? p k ≡ some l → (s v : State) (w : Weights) → Related s v w → Lined p k l s v w
-line-done p n A k l e s v w S =
-    subst₂ (λ (s v : State). Lined p k l s v w) (sym (S .source)) (sym (S .image))
-    (line-by p n k (l .mark) (l .opcode) (l .destination) (l .first) (l .second) (l .target) e (line-at n p A k l e)
+line-done : (L : Layout) (K : Known L) (p : List Line) (n : ℕ) → AllRight n p → (k : ℕ) (l : Line) → getElem? p k ≡ some l → (s v : State) (w : Weights) → Related L s v w → Lined L p k l s v w
+line-done L K p n A k l e s v w S =
+    subst₂ (λ (s v : State). Lined L p k l s v w) (sym (S .source)) (sym (S .image))
+    (line-by L K p n k (l .mark) (l .opcode) (l .destination) (l .first) (l .second) (l .target) e (line-at n p A k l e)
     (S .tail) (S .bits) (S .x) (S .y) (S .z) w (S .one) (S .two) (S .three))
 
 -- ---- n source steps
 
 -- what they show, by public numbers
-unfoldable pub allRows : List Line → ℕ → ℕ → State → Weights → List Row
-allRows p zero k s w = []
-allRows p (suc n) k s w = elim (getElem? p k) [ none ↦ [] | some l ↦ lineRows l (start p k) s w ++ allRows p n (next l k s) (after l s) (lineWeights l w) ]
+unfoldable pub allRows : (L : Layout) → List Line → ℕ → ℕ → State → Weights → List Row
+allRows L p zero k s w = []
+allRows L p (suc n) k s w = elim (getElem? p k) [ none ↦ [] | some l ↦ lineRows L l (start L p k) s w ++ allRows L p n (next l k s) (after l s) (lineWeights l w) ]
 
-pub span-none : (p : List Line) (n k : ℕ) (s : State) → getElem? p k ≡ none → span p n k s ≡ 0
+pub span-none : (L : Layout) (p : List Line) (n k : ℕ) (s : State) → getElem? p k ≡ none → span L p n k s ≡ 0
 unfolding span
-span-none p zero k s e = refl
-span-none p (suc n) k s e = rw (e, span)
+span-none L p zero k s e = refl
+span-none L p (suc n) k s e = rw (e, span)
 
-pub span-some : (p : List Line) (n k : ℕ) (s : State) (l : Line) → getElem? p k ≡ some l → span p (suc n) k s ≡ size l + span p n (next l k s) (after l s)
+pub span-some : (L : Layout) (p : List Line) (n k : ℕ) (s : State) (l : Line) → getElem? p k ≡ some l → span L p (suc n) k s ≡ size L l + span L p n (next l k s) (after l s)
 unfolding span
-span-some p n k s l e = rw (e, span)
+span-some L p n k s l e = rw (e, span)
 
-pub rows-none : (p : List Line) (n k : ℕ) (s : State) (w : Weights) → getElem? p k ≡ none → allRows p n k s w ≡ []
+pub rows-none : (L : Layout) (p : List Line) (n k : ℕ) (s : State) (w : Weights) → getElem? p k ≡ none → allRows L p n k s w ≡ []
 unfolding allRows
-rows-none p zero k s w e = refl
-rows-none p (suc n) k s w e = rw (e, allRows)
+rows-none L p zero k s w e = refl
+rows-none L p (suc n) k s w e = rw (e, allRows)
 
-pub rows-some : (p : List Line) (n k : ℕ) (s : State) (w : Weights) (l : Line) → getElem? p k ≡ some l
-    → allRows p (suc n) k s w ≡ lineRows l (start p k) s w ++ allRows p n (next l k s) (after l s) (lineWeights l w)
+pub rows-some : (L : Layout) (p : List Line) (n k : ℕ) (s : State) (w : Weights) (l : Line) → getElem? p k ≡ some l
+    → allRows L p (suc n) k s w ≡ lineRows L l (start L p k) s w ++ allRows L p n (next l k s) (after l s) (lineWeights l w)
 unfolding allRows
-rows-some p n k s w l e = rw (e, allRows)
+rows-some L p n k s w l e = rw (e, allRows)
 
-pub record Simulated (p : List Line) (n k : ℕ) (s v : State) (w : Weights) : Type 0 where
+pub record Simulated (L : Layout) (p : List Line) (n k : ℕ) (s v : State) (w : Weights) : Type 0 where
   pub weights : Weights
-  pub steps : length (run (expand p) (span p n k s) (start p k) v .rows) ≡ span p n k s
-  pub stands : run (expand p) (span p n k s) (start p k) v .at ≡ start p (run p n k s .at)
-  pub shows : run (expand p) (span p n k s) (start p k) v .rows ≡ allRows p n k s w
-  pub related : Related (run p n k s .state) (run (expand p) (span p n k s) (start p k) v .state) weights
+  pub steps : length (run (expand L p) (span L p n k s) (start L p k) v .rows) ≡ span L p n k s
+  pub stands : run (expand L p) (span L p n k s) (start L p k) v .at ≡ start L p (run p n k s .at)
+  pub shows : run (expand L p) (span L p n k s) (start L p k) v .rows ≡ allRows L p n k s w
+  pub related : Related L (run p n k s .state) (run (expand L p) (span L p n k s) (start L p k) v .state) weights
 
 -- nothing done on either side
-simulated-none : (p : List Line) (n k : ℕ) (s v : State) (w : Weights) → Related s v w → span p n k s ≡ 0 → run p n k s ≡ ran k s [] → allRows p n k s w ≡ [] → Simulated p n k s v w
-simulated-none p n k s v w S es er ea =
+simulated-none : (L : Layout) (p : List Line) (n k : ℕ) (s v : State) (w : Weights) → Related L s v w → span L p n k s ≡ 0 → run p n k s ≡ ran k s [] → allRows L p n k s w ≡ [] → Simulated L p n k s v w
+simulated-none L p n k s v w S es er ea =
     record {
       weights = w;
-      steps = rw (es, run-zero (expand p) (start p k) v);
-      stands = rw (es, run-zero (expand p) (start p k) v, er);
-      shows = rw (es, run-zero (expand p) (start p k) v, ea);
-      related = rw (es, run-zero (expand p) (start p k) v, er) S;
+      steps = rw (es, run-zero (expand L p) (start L p k) v);
+      stands = rw (es, run-zero (expand L p) (start L p k) v, er);
+      shows = rw (es, run-zero (expand L p) (start L p k) v, ea);
+      related = rw (es, run-zero (expand L p) (start L p k) v, er) S;
     }
 
 -- a line, and then the others
-simulated-some : (p : List Line) (n k : ℕ) (s v : State) (w : Weights) (l : Line) → getElem? p k ≡ some l → Lined p k l s v w
-    → Simulated p n (next l k s) (after l s) (run (expand p) (size l) (start p k) v .state) (lineWeights l w) → Simulated p (suc n) k s v w
-simulated-some p n k s v w l e L I =
-    let g = run (expand p) (size l) (start p k) v in
-    let m = span p n (next l k s) (after l s) in
-    let f = run (expand p) m (start p (next l k s)) (g .state) in
-    let q : run (expand p) (span p (suc n) k s) (start p k) v ≡ joinRuns g f =
-    ap (λ (i : ℕ). run (expand p) i (start p k) v) (span-some p n k s l e) ∙ run-add (expand p) (size l) m (start p k) v
-    ∙ ap (λ (i : ℕ). joinRuns g (run (expand p) m i (g .state))) (L .stands) in
+simulated-some : (L : Layout) (p : List Line) (n k : ℕ) (s v : State) (w : Weights) (l : Line) → getElem? p k ≡ some l → Lined L p k l s v w
+    → Simulated L p n (next l k s) (after l s) (run (expand L p) (size L l) (start L p k) v .state) (lineWeights l w) → Simulated L p (suc n) k s v w
+simulated-some L p n k s v w l e N I =
+    let g = run (expand L p) (size L l) (start L p k) v in
+    let m = span L p n (next l k s) (after l s) in
+    let f = run (expand L p) m (start L p (next l k s)) (g .state) in
+    let q : run (expand L p) (span L p (suc n) k s) (start L p k) v ≡ joinRuns g f =
+    ap (λ (i : ℕ). run (expand L p) i (start L p k) v) (span-some L p n k s l e) ∙ run-add (expand L p) (size L l) m (start L p k) v
+    ∙ ap (λ (i : ℕ). joinRuns g (run (expand L p) m i (g .state))) (N .stands) in
     let y : run p (suc n) k s ≡ push (row l k s) (run p n (next l k s) (after l s)) = step-run p k s l e n in
     record {
       weights = I .weights;
-      steps = ap (λ (x : Ran). length (x .rows)) q ∙ length-append (g .rows) (f .rows) ∙ ap₂ (λ (x z : ℕ). x + z) (L .steps) (I .steps) ∙ sym (span-some p n k s l e);
-      stands = ap (λ (x : Ran). x .at) q ∙ I .stands ∙ ap (λ (x : Ran). start p (x .at)) (sym y);
-      shows = ap (λ (x : Ran). x .rows) q ∙ ap₂ (λ (x z : List Row). x ++ z) (L .shows) (I .shows) ∙ sym (rows-some p n k s w l e);
-      related = subst₂ (λ (x z : Ran). Related (x .state) (z .state) (I .weights)) (sym y) (sym q) (I .related);
+      steps = ap (λ (x : Ran). length (x .rows)) q ∙ length-append (g .rows) (f .rows) ∙ ap₂ (λ (x z : ℕ). x + z) (N .steps) (I .steps) ∙ sym (span-some L p n k s l e);
+      stands = ap (λ (x : Ran). x .at) q ∙ I .stands ∙ ap (λ (x : Ran). start L p (x .at)) (sym y);
+      shows = ap (λ (x : Ran). x .rows) q ∙ ap₂ (λ (x z : List Row). x ++ z) (N .shows) (I .shows) ∙ sym (rows-some L p n k s w l e);
+      related = subst₂ (λ (x z : Ran). Related L (x .state) (z .state) (I .weights)) (sym y) (sym q) (I .related);
     }
 
-pub simulate : (p : List Line) (m : ℕ) → AllRight m p → (n k : ℕ) (s v : State) (w : Weights) → Related s v w → Simulated p n k s v w
+pub simulate : (L : Layout) (K : Known L) (p : List Line) (m : ℕ) → AllRight m p → (n k : ℕ) (s v : State) (w : Weights) → Related L s v w → Simulated L p n k s v w
 unfolding span allRows
-simulate p m A zero k s v w S = simulated-none p zero k s v w S refl (run-zero p k s) refl
-simulate p m A (suc n) k s v w S = go (λ k s v w S. simulate p m A n k s v w S) (getElem? p k) refl
+simulate L K p m A zero k s v w S = simulated-none L p zero k s v w S refl (run-zero p k s) refl
+simulate L K p m A (suc n) k s v w S = go (λ k s v w S. simulate L K p m A n k s v w S) (getElem? p k) refl
   where
-    go : ((k : ℕ) (s v : State) (w : Weights) → Related s v w → Simulated p n k s v w) → (o : Option Line) → getElem? p k ≡ o → Simulated p (suc n) k s v w
-    go ih none e = simulated-none p (suc n) k s v w S (span-none p (suc n) k s e) (stopped p k s e (suc n)) (rows-none p (suc n) k s w e)
+    go : ((k : ℕ) (s v : State) (w : Weights) → Related L s v w → Simulated L p n k s v w) → (o : Option Line) → getElem? p k ≡ o → Simulated L p (suc n) k s v w
+    go ih none e = simulated-none L p (suc n) k s v w S (span-none L p (suc n) k s e) (stopped p k s e (suc n)) (rows-none L p (suc n) k s w e)
     go ih (some l) e =
-        let L = line-done p m A k l e s v w S in
-        simulated-some p n k s v w l e L (ih (next l k s) (after l s) (run (expand p) (size l) (start p k) v .state) (lineWeights l w) (L .related))
+        let N = line-done L K p m A k l e s v w S in
+        simulated-some L p n k s v w l e N (ih (next l k s) (after l s) (run (expand L p) (size L l) (start L p k) v .state) (lineWeights l w) (N .related))

@@ -7,6 +7,7 @@ use Prim.Native.Nat.{ℕ, suc, _+_, _-_}
 use native.Mathlib.Omega.{arith}
 use lib.ListN.{length, getD, set, List·getD-eq-default}
 use lib.Seq.{set-out}
+use Rattle.model.specs.declared.Layout.{Layout}
 use Rattle.model.specs.declared.Mark.the-variants.{Unmarked}
 use Rattle.model.specs.declared.Opcode.{Opcode}
 use Rattle.model.specs.declared.Operand.{Operand}
@@ -55,11 +56,11 @@ module _ (s t : State) (ls : length s ≡ 544) (lt : length t ≡ 544) (h : Same
       (place-same s t h d (steady-public d (P .destination))) (result-same op g) (same-both s t (place d s) (result (mk Unmarked op d a b g) s) ls lt h)
 
 -- the same written in the bit state and in the image
-module _ (r : List ℕ) (bits : BitState (zeros r)) (x y z : ℕ) (w : Weights) (wx : weight x ≡ w .one) (wy : weight y ≡ w .two) (wz : weight z ≡ w .three) where
-  pub held-length : length (held x y z (rails r)) ≡ 544
-  held-length = omega (arith, rails-length r bits)
+module _ (L : Layout) (r : List ℕ) (bits : BitState (zeros r)) (x y z : ℕ) (w : Weights) (wx : weight x ≡ w .one) (wy : weight y ≡ w .two) (wz : weight z ≡ w .three) where
+  pub held-length : length (held x y z (rails L r)) ≡ 544
+  held-length = omega (arith, rails-length L r bits)
 
-  nothing-written : (n : ℕ) → Related (set (zeros r) 544 n) (set (held x y z (rails r)) 544 n) w
+  nothing-written : (n : ℕ) → Related L (set (zeros r) 544 n) (set (held x y z (rails L r)) 544 n) w
   nothing-written n =
       record {
         tail = r;
@@ -68,13 +69,13 @@ module _ (r : List ℕ) (bits : BitState (zeros r)) (x y z : ℕ) (w : Weights) 
         z = z;
         bits = bits;
         source = set-out (zeros r) 544 n (omega (arith, bits .long));
-        image = set-out (held x y z (rails r)) 544 n (omega (arith, held-length));
+        image = set-out (held x y z (rails L r)) 544 n (omega (arith, held-length));
         one = wx;
         two = wy;
         three = wz;
       }
 
-  public-written : (i n : ℕ) → Of Public i → Related (set (zeros r) i n) (set (held x y z (rails r)) i n) w
+  public-written : (i n : ℕ) → Of Public i → Related L (set (zeros r) i n) (set (held x y z (rails L r)) i n) w
   public-written i n o =
       let q : ℕ = i - 4 in
       let e : i ≡ plus4 q = omega (arith, o .past) in
@@ -86,13 +87,13 @@ module _ (r : List ℕ) (bits : BitState (zeros r)) (x y z : ℕ) (w : Weights) 
         z = z;
         bits = bits-set (zeros r) (plus4 q) n bits (public-bit (plus4 q) n k);
         source = ap (λ (j : ℕ). set (zeros r) j n) e;
-        image = ap (λ (j : ℕ). set (held x y z (rails r)) j n) e ∙ ap (held x y z) (write-public r bits q n k);
+        image = ap (λ (j : ℕ). set (held x y z (rails L r)) j n) e ∙ ap (held x y z) (write-public L r bits q n k);
         one = wx;
         two = wy;
         three = wz;
       }
 
-  written : (d : Operand) → PublicOperand d → (n : ℕ) → Related (set (zeros r) (place d (zeros r)) n) (set (held x y z (rails r)) (place d (zeros r)) n) w
+  written : (d : Operand) → PublicOperand d → (n : ℕ) → Related L (set (zeros r) (place d (zeros r)) n) (set (held x y z (rails L r)) (place d (zeros r)) n) w
   unfolding place
   written Empty g n = nothing-written n
   written (Literal m) g n = nothing-written n
@@ -103,12 +104,12 @@ module _ (r : List ℕ) (bits : BitState (zeros r)) (x y z : ℕ) (w : Weights) 
   written (TableCell b k) g n = absurd g
 
   pub plain-related : (op : Opcode) (d a b : Operand) (g : Target) → Plain d a b
-      → Related (after (mk Unmarked op d a b g) (zeros r)) (after (mk Unmarked op d a b g) (held x y z (rails r))) w
+      → Related L (after (mk Unmarked op d a b g) (zeros r)) (after (mk Unmarked op d a b g) (held x y z (rails L r))) w
   unfolding after
   plain-related op d a b g P =
-      let v = held x y z (rails r) in
-      let h = same-held r bits x y z in
-      subst₂ (λ (i n : ℕ). Related (set (zeros r) (place d (zeros r)) (result (mk Unmarked op d a b g) (zeros r))) (set v i n) w)
+      let v = held x y z (rails L r) in
+      let h = same-held L r bits x y z in
+      subst₂ (λ (i n : ℕ). Related L (set (zeros r) (place d (zeros r)) (result (mk Unmarked op d a b g) (zeros r))) (set v i n) w)
       (place-same (zeros r) v h d (steady-public d (P .destination)))
       (result-same (zeros r) v (bits .long) held-length h d a b P op g)
       (written d (P .destination) (result (mk Unmarked op d a b g) (zeros r)))

@@ -1,51 +1,49 @@
--- 'Code, tables, macros', the code and the tables: every sensitive bit is stored as 01 or 10.
+-- 'Code, tables, macros', the code and the tables: every sensitive bit is stored as one of a layout's two codes, 01 or 10 where they are
+-- neighbours.
 -- Assumes nothing.
 use mathlib.Core.Bool.{cond}
 use Prim.Native.Nat.{ℕ, zero, suc, _+_, _-_, _*_}
 use lib.Dec.{eqb, ltb}
 use Rattle.model.specs.declared.Mark.the-variants.{Marked}
+use Rattle.model.specs.declared.Layout.{Layout}
 use Rattle.model.specs.declared.Opcode.{Opcode}
 use Rattle.model.specs.declared.Opcode.the-variants.{And, Orr, Xor}
 use Rattle.model.specs.Step.{alu}
 
--- bit 1 is 01, bit 0 is 10
-unfoldable pub code : ℕ → ℕ
-code zero = 2
-code (suc n) = 1
+-- the code of a bit
+unfoldable pub code : Layout → ℕ → ℕ
+code L zero = L .zero
+code L (suc n) = L .one
 
--- both bits of a code
-abbrev pub mask : ℕ
-mask = 3
-
--- a table's index of two codes
-abbrev pub index : ℕ → ℕ → ℕ
-index a b = 4 * a + b
+-- a table's index of two codes: the first is shifted past the second, by two bits; spaced bits need one, to stand in between
+abbrev pub index : Layout → ℕ → ℕ → ℕ
+index L a b = cond (L .spaced) 2 4 * a + b
 
 -- a table's entry i: the code of a op b where i is the index of their codes, else 0
-unfoldable pub entry : Opcode → ℕ → ℕ
+unfoldable pub entry : Layout → Opcode → ℕ → ℕ
 unfolding code alu
-entry op i =
-    cond (eqb i (index (code 0) (code 0))) (code (alu Marked op 0 0))
-    (cond (eqb i (index (code 0) (code 1))) (code (alu Marked op 0 1))
-    (cond (eqb i (index (code 1) (code 0))) (code (alu Marked op 1 0))
-    (cond (eqb i (index (code 1) (code 1))) (code (alu Marked op 1 1))
+entry L op i =
+    cond (eqb i (index L (code L 0) (code L 0))) (code L (alu Marked op 0 0))
+    (cond (eqb i (index L (code L 0) (code L 1))) (code L (alu Marked op 0 1))
+    (cond (eqb i (index L (code L 1) (code L 0))) (code L (alu Marked op 1 0))
+    (cond (eqb i (index L (code L 1) (code L 1))) (code L (alu Marked op 1 1))
     0)))
 
--- where the three tables of 16 cells begin, counted from cell 256
-abbrev pub andTable : ℕ
-andTable = 0
+-- where the three tables begin, counted from cell 256; each is as long as the first
+abbrev pub andTable : Layout → ℕ
+andTable L = 0
 
-abbrev pub orrTable : ℕ
-orrTable = 16
+abbrev pub orrTable : Layout → ℕ
+orrTable L = L .orr
 
-abbrev pub xorTable : ℕ
-xorTable = 32
+abbrev pub xorTable : Layout → ℕ
+xorTable L = L .xor
 
 -- what the table page holds at i, counted from cell 256
-unfoldable pub page : ℕ → ℕ
+unfoldable pub page : Layout → ℕ → ℕ
 unfolding entry
-page i =
-    cond (ltb i orrTable) (entry And (i - andTable))
-    (cond (ltb i xorTable) (entry Orr (i - orrTable))
-    (cond (ltb i (xorTable + 16)) (entry Xor (i - xorTable))
+page L i =
+    cond (ltb i (orrTable L)) (entry L And (i - andTable L))
+    (cond (ltb i (xorTable L)) (entry L Orr (i - orrTable L))
+    (cond (ltb i (xorTable L + orrTable L)) (entry L Xor (i - xorTable L))
     0))

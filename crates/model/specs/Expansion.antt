@@ -1,6 +1,6 @@
 -- 'Code, tables, macros', the macros line for line, a line's part, the starts, the expansion, and condition 17.
 -- Assumes nothing.
-use mathlib.Core.Bool.{cond}
+use mathlib.Core.Bool.{Bool, true, false, cond}
 use mathlib.Core.List.{List, [], _∷_, _++_, flatMap}
 use Prim.Native.Nat.{ℕ, zero, suc, _+_}
 use lib.Dec.{ltb}
@@ -14,21 +14,23 @@ use Rattle.model.specs.declared.Operand.the-variants.{Empty, Literal, Re
 use Rattle.model.specs.declared.Target.{Target}
 use Rattle.model.specs.declared.Target.the-variants.{Empty as NoTarget, Line as ToLine}
 use Rattle.model.specs.declared.Line.{Line}
+use Rattle.model.specs.declared.Layout.{Layout}
 use Rattle.model.specs.Answers.{counted, refused, Outcome, outcome, unlessRefused, atFront}
 use Rattle.model.specs.Stored.{codes, lineCount, lines}
 use Rattle.model.specs.Marks.{markCheck}
-use Rattle.model.specs.Code.{code, mask, andTable, orrTable, xorTable}
+use Rattle.model.specs.Layouts.{neighbours}
+use Rattle.model.specs.Code.{code, andTable, orrTable, xorTable}
 
 -- a literal of a marked line, coded
-unfoldable pub coded : Operand → Operand
+unfoldable pub coded : Layout → Operand → Operand
 unfolding code
-coded Empty = Empty
-coded (Literal n) = Literal (code n)
-coded (Register n) = Register n
-coded (Cell n) = Cell n
-coded (PublicCell r k) = PublicCell r k
-coded (SensitiveCell r k) = SensitiveCell r k
-coded (TableCell r k) = TableCell r k
+coded L Empty = Empty
+coded L (Literal n) = Literal (code L n)
+coded L (Register n) = Register n
+coded L (Cell n) = Cell n
+coded L (PublicCell r k) = PublicCell r k
+coded L (SensitiveCell r k) = SensitiveCell r k
+coded L (TableCell r k) = TableCell r k
 
 -- a line of a macro, with two arguments or with one; it carries the mark of the old line
 abbrev pub markedLine : Opcode → Operand → Operand → Operand → Line
@@ -47,18 +49,20 @@ precharged d a = move d (Register 0) ∷ move d a ∷ []
 unfoldable pub load : ℕ → Operand → List Line
 load n a = precharged (Register n) a
 
--- the first code masked, and shifted to its place in the index
-unfoldable pub scale : List Line
-scale =
-    markedLine And (Register 1) (Register 1) (Literal mask)
-    ∷ markedLine Lsl (Register 1) (Register 1) (Literal 1)
-    ∷ markedLine Lsl (Register 1) (Register 1) (Literal 1)
-    ∷ []
+-- the first code shifted to its place in the index
+unfoldable pub shifts : Bool → List Line
+shifts false = markedLine Lsl (Register 1) (Register 1) (Literal 1) ∷ markedLine Lsl (Register 1) (Register 1) (Literal 1) ∷ []
+shifts true = markedLine Lsl (Register 1) (Register 1) (Literal 1) ∷ []
+
+-- the first code masked, and shifted
+unfoldable pub scale : Layout → List Line
+unfolding shifts
+scale L = markedLine And (Register 1) (Register 1) (Literal (L .mask)) ∷ shifts (L .spaced)
 
 -- the second code masked, and joined to the first
-unfoldable pub combine : List Line
-combine =
-    markedLine And (Register 2) (Register 2) (Literal mask)
+unfoldable pub combine : Layout → List Line
+combine L =
+    markedLine And (Register 2) (Register 2) (Literal (L .mask))
     ∷ markedLine Orr (Register 1) (Register 1) (Register 2)
     ∷ []
 
@@ -67,8 +71,8 @@ unfoldable pub fetch : ℕ → List Line
 fetch t = precharged (Register 3) (TableCell 1 t)
 
 -- both bits of the code flipped
-unfoldable pub flip : List Line
-flip = markedLine Xor (Register 1) (Register 1) (Literal mask) ∷ []
+unfoldable pub flip : Layout → List Line
+flip L = markedLine Xor (Register 1) (Register 1) (Literal (L .mask)) ∷ []
 
 -- the destination precharged, and written from register n
 unfoldable pub writeBack : ℕ → Operand → List Line
@@ -77,33 +81,33 @@ writeBack n d = precharged d (Register n)
 -- ---- the macros
 
 -- and, orr, xor
-unfoldable pub lookup : ℕ → Operand → Operand → Operand → List Line
-lookup t d a b = load 1 a ++ (scale ++ (load 2 b ++ (combine ++ (fetch t ++ writeBack 3 d))))
+unfoldable pub lookup : Layout → ℕ → Operand → Operand → Operand → List Line
+lookup L t d a b = load 1 a ++ (scale L ++ (load 2 b ++ (combine L ++ (fetch t ++ writeBack 3 d))))
 
 -- not
-unfoldable pub negate : Operand → Operand → List Line
-negate d a = load 1 a ++ (flip ++ writeBack 1 d)
+unfoldable pub negate : Layout → Operand → Operand → List Line
+negate L d a = load 1 a ++ (flip L ++ writeBack 1 d)
 
 -- mov
 unfoldable pub copy : Operand → Operand → List Line
 copy d a = load 3 a ++ writeBack 3 d
 
 -- the macro of a marked line; the opcodes that no accepted one has give nothing
-unfoldable pub macro : Opcode → Operand → Operand → Operand → List Line
+unfoldable pub macro : Layout → Opcode → Operand → Operand → Operand → List Line
 unfolding lookup negate copy
-macro Nop d a b = []
-macro Jmp d a b = []
-macro Not d a b = negate d a
-macro Mov d a b = copy d a
-macro And d a b = lookup andTable d a b
-macro Orr d a b = lookup orrTable d a b
-macro Xor d a b = lookup xorTable d a b
-macro Lsl d a b = []
-macro Lsr d a b = []
-macro Add d a b = []
-macro Mul d a b = []
-macro Beq d a b = []
-macro Bne d a b = []
+macro L Nop d a b = []
+macro L Jmp d a b = []
+macro L Not d a b = negate L d a
+macro L Mov d a b = copy d a
+macro L And d a b = lookup L (andTable L) d a b
+macro L Orr d a b = lookup L (orrTable L) d a b
+macro L Xor d a b = lookup L (xorTable L) d a b
+macro L Lsl d a b = []
+macro L Lsr d a b = []
+macro L Add d a b = []
+macro L Mul d a b = []
+macro L Beq d a b = []
+macro L Bne d a b = []
 
 -- ---- the expansion
 
@@ -116,34 +120,34 @@ abbrev pub retarget : (ℕ → ℕ) → Line → Line
 retarget starts l = record { mark = l .mark; opcode = l .opcode; destination = l .destination; first = l .first; second = l .second; target = newTarget starts (l .target) }
 
 -- the part of the expansion that a line becomes: an unmarked line itself, a marked one its macro
-unfoldable pub partOf : Mark → (ℕ → ℕ) → Line → List Line
+unfoldable pub partOf : Layout → Mark → (ℕ → ℕ) → Line → List Line
 unfolding macro coded newTarget
-partOf Unmarked starts l = retarget starts l ∷ []
-partOf Marked starts l = macro (l .opcode) (l .destination) (coded (l .first)) (coded (l .second))
+partOf L Unmarked starts l = retarget starts l ∷ []
+partOf L Marked starts l = macro L (l .opcode) (l .destination) (coded L (l .first)) (coded L (l .second))
 
-abbrev pub part : (ℕ → ℕ) → Line → List Line
-part starts l = partOf (l .mark) starts l
+abbrev pub part : Layout → (ℕ → ℕ) → Line → List Line
+part L starts l = partOf L (l .mark) starts l
 
 -- the length of a line's part, which the starts do not change
-unfoldable pub size : Line → ℕ
+unfoldable pub size : Layout → Line → ℕ
 unfolding partOf
-size l = length (part (λ t. t) l)
+size L l = length (part L (λ t. t) l)
 
 -- a line's start: the sum of the lengths of the parts before it. At and past the line count it is the expansion's end
-unfoldable pub start : List Line → ℕ → ℕ
+unfoldable pub start : Layout → List Line → ℕ → ℕ
 unfolding size
-start [] i = 0
-start (l ∷ ls) zero = 0
-start (l ∷ ls) (suc i) = size l + start ls i
+start L [] i = 0
+start L (l ∷ ls) zero = 0
+start L (l ∷ ls) (suc i) = size L l + start L ls i
 
 -- the joined list of the parts
-unfoldable pub joined : (ℕ → ℕ) → List Line → List Line
+unfoldable pub joined : Layout → (ℕ → ℕ) → List Line → List Line
 unfolding flatMap partOf
-joined starts ls = flatMap (part starts) ls
+joined L starts ls = flatMap (part L starts) ls
 
-unfoldable pub expand : List Line → List Line
+unfoldable pub expand : Layout → List Line → List Line
 unfolding joined start
-expand p = joined (start p) p
+expand L p = joined L (start L p) p
 
 -- lines at the front of a store: 17 where it has room for fewer
 unfoldable pub written : List Line → List ℕ → Outcome
@@ -154,6 +158,9 @@ written ls out =
     (outcome (counted (length ls)) (atFront (flatMap codes ls) out ∷ []))
 
 -- the mark check, then 17 fewer lines than the expansion has
-unfoldable pub expandOutcome : List ℕ → List ℕ → Outcome
+unfoldable pub expansionIn : Layout → List ℕ → List ℕ → Outcome
 unfolding markCheck expand written
-expandOutcome p out = unlessRefused (markCheck p) (out ∷ []) (written (expand (lines p)) out)
+expansionIn L p out = unlessRefused (markCheck p) (out ∷ []) (written (expand L (lines p)) out)
+
+abbrev pub expandOutcome : List ℕ → List ℕ → Outcome
+expandOutcome p out = expansionIn neighbours p out

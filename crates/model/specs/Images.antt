@@ -7,10 +7,12 @@ use Prim.Native.Nat.{ℕ, suc, _-_, _≤_, _<_}
 use lib.Dec.{ltb, leb, eqb}
 use lib.ListN.{getD, length}
 use Rattle.model.specs.Limits.{stateSize}
+use Rattle.model.specs.declared.Layout.{Layout}
 use Rattle.model.specs.Answers.{counted, refused, Outcome, outcome}
 use Rattle.model.specs.declared.Kind.{Kind}
 use Rattle.model.specs.declared.Kind.the-variants.{Neither, Public, Sensitive}
 use Rattle.model.specs.Places.{State, kind}
+use Rattle.model.specs.Layouts.{neighbours}
 use Rattle.model.specs.Code.{code, page}
 
 -- by the kind of a place
@@ -34,27 +36,27 @@ mapAt f i [] = []
 mapAt f i (x ∷ xs) = f i x ∷ mapAt f (suc i) xs
 
 -- what an image holds where neither a public nor a sensitive place is: 0 in r0 to r3, then the tables
-unfoldable pub fixed : ℕ → ℕ
+unfoldable pub fixed : Layout → ℕ → ℕ
 unfolding page
-fixed i = cond (ltb i 4) 0 (page (i - 288))
+fixed L i = cond (ltb i 4) 0 (page L (i - 288))
 
 -- an image: public places unchanged, sensitive bits coded
-unfoldable pub imageAt : ℕ → ℕ → ℕ
+unfoldable pub imageAt : Layout → ℕ → ℕ → ℕ
 unfolding kind fixed code
-imageAt i x = byKind (kind i) (fixed i) x (code x)
+imageAt L i x = byKind (kind i) (fixed L i) x (code L x)
 
-unfoldable pub image : State → State
+unfoldable pub image : Layout → State → State
 unfolding mapAt imageAt
-image s = mapAt imageAt 0 s
+image L s = mapAt (imageAt L) 0 s
 
 -- the way back: sensitive places decoded, r1 to r3 and the table page cleared; r0 is 0 already
-unfoldable pub backAt : ℕ → ℕ → ℕ
+unfoldable pub backAt : Layout → ℕ → ℕ → ℕ
 unfolding kind code
-backAt i x = byKind (kind i) 0 x (cond (eqb x (code 1)) 1 0)
+backAt L i x = byKind (kind i) 0 x (cond (eqb x (code L 1)) 1 0)
 
-unfoldable pub back : State → State
+unfoldable pub back : Layout → State → State
 unfolding mapAt backAt
-back v = mapAt backAt 0 v
+back L v = mapAt (backAt L) 0 v
 
 -- ---- conditions 18 and 19
 
@@ -64,14 +66,14 @@ unfolding kind
 bitRight i x = byKind (kind i) (eqb x 0) true (leb x 1)
 
 -- may x stand on the way back where neither a public nor a sensitive place is: r1 to r3 hold anything
-unfoldable pub fixedRight : ℕ → ℕ → Bool
+unfoldable pub fixedRight : Layout → ℕ → ℕ → Bool
 unfolding fixed
-fixedRight i x = cond (ltb i 4) (cond (eqb i 0) (eqb x 0) true) (eqb x (fixed i))
+fixedRight L i x = cond (ltb i 4) (cond (eqb i 0) (eqb x 0) true) (eqb x (fixed L i))
 
 -- may x stand at place i on the way back
-unfoldable pub imageRight : ℕ → ℕ → Bool
+unfoldable pub imageRight : Layout → ℕ → ℕ → Bool
 unfolding kind fixedRight code
-imageRight i x = byKind (kind i) (fixedRight i x) true (eqb x (code 1) || eqb x (code 0))
+imageRight L i x = byKind (kind i) (fixedRight L i x) true (eqb x (code L 1) || eqb x (code L 0))
 
 -- a test at each place counted from i
 unfoldable pub every : (ℕ → ℕ → Bool) → ℕ → List ℕ → Bool
@@ -88,11 +90,17 @@ carried right over from into =
     (outcome (refused 18 0) (into ∷ [])))
     (outcome (refused 18 0) (into ∷ []))
 
+abbrev pub imageIn : Layout → State → State → Outcome
+imageIn L bits image′ = carried bitRight (image L) bits image′
+
+abbrev pub bitsIn : Layout → State → State → Outcome
+bitsIn L image′ bits = carried (imageRight L) (back L) image′ bits
+
 abbrev pub toImageOutcome : State → State → Outcome
-toImageOutcome bits image′ = carried bitRight image bits image′
+toImageOutcome bits image′ = imageIn neighbours bits image′
 
 abbrev pub fromImageOutcome : State → State → Outcome
-fromImageOutcome image′ bits = carried imageRight back image′ bits
+fromImageOutcome image′ bits = bitsIn neighbours image′ bits
 
 -- ---- states compared
 

@@ -6,6 +6,7 @@ pub mod Stored
 pub mod Text
 pub mod Step
 pub mod Run
+pub mod Layouts
 pub mod Code
 pub mod Images
 pub mod Marks

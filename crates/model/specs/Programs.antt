@@ -11,6 +11,7 @@ use Rattle.model.specs.Answers.{Report, done, refused}
 use Rattle.model.specs.Stored.{lines}
 use Rattle.model.specs.Text.{newline, comma, decimal, spellLine, reading}
 use Rattle.model.specs.Run.{Ran, run}
+use Rattle.model.specs.Layouts.{neighbours}
 use Rattle.model.specs.Images.{image}
 use Rattle.model.specs.Expansion.{expand}
 use Rattle.model.specs.Marks.{markCheck}
@@ -66,9 +67,9 @@ printed text input =
 -- the first program prints the expansion
 unfoldable pub expandPrints : List ℕ → List ℕ
 unfolding printed expand spellLine flatMap
-expandPrints input = printed (λ p. flatMap spellLine (expand p)) input
+expandPrints input = printed (λ p. flatMap spellLine (expand neighbours p)) input
 
 -- the second runs that expansion from the image of the all-zero state, and prints the trace
 unfoldable pub tracePrints : List ℕ → List ℕ
 unfolding printed expand run image traceText
-tracePrints input = printed (λ p. traceText (expand p) (run (expand p) traceBudget 0 (image (replicate stateSize 0)))) input
+tracePrints input = printed (λ p. traceText (expand neighbours p) (run (expand neighbours p) traceBudget 0 (image neighbours (replicate stateSize 0)))) input

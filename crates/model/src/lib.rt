@@ -60,6 +60,17 @@ pub enum Target {
     Line(u16),
 }
 
+// How the code's two bits lie: the codes of 1 and of 0, both bits together, whether a bit lies between the two, and where the tables of
+// orr and xor begin, counted from cell 256, where that of and begins. `neighbours` of specs/Layouts is the one layout that there is.
+pub struct Layout {
+    pub one: u8,
+    pub zero: u8,
+    pub mask: u8,
+    pub spaced: bool,
+    pub orr: u8,
+    pub xor: u8,
+}
+
 pub struct Line {
     pub mark: Mark,
     pub opcode: Opcode,

@@ -9,6 +9,7 @@ use borrow.Author.Tests.{lt-ltb, le-ltb}
 use lib.Dec.{ltb}
 use lib.ListN.{length, take, drop, length-append}
 use lib.Seq.{take-at}
+use Rattle.model.specs.Layouts.{neighbours, near}
 use Rattle.model.specs.declared.Answer.{Answer}
 use Rattle.model.specs.declared.Answer.the-variants.{Count}
 use Rattle.model.specs.declared.Line.{Line}
@@ -17,7 +18,7 @@ use Rattle.model.specs.Answers.{Report, done, report, counted, refused, Outcome
 use Rattle.model.specs.Stored.{codes, lineCount, lines, programCheck}
 use Rattle.model.specs.Text.{Reading, reading, spellLine, readOutcome, textOf, writeOutcome, fitted}
 use Rattle.model.specs.Marks.{markCheck, Accepted}
-use Rattle.model.specs.Expansion.{expand, expandOutcome, written}
+use Rattle.model.specs.Expansion.{expand, expansionIn, expandOutcome, written}
 use Rattle.model.specs.Programs.{inputSize, orRefusal, printed, expandPrints}
 use Rattle.model.proofs.StoredLaws.{counted-count, never-counted, codes-length}
 use Rattle.model.proofs.RoundTrip.{read-outcome, reads-back}
@@ -34,7 +35,7 @@ read-input : (input : List ℕ) → readInput input ≡ reading maxLines 0 maxLi
 unfolding readInput
 read-input input = refl
 
-expansion-of : (input : List ℕ) → expansionOf input ≡ expand (lines (readInput input .stored))
+expansion-of : (input : List ℕ) → expansionOf input ≡ expand neighbours (lines (readInput input .stored))
 unfolding expansionOf
 expansion-of input = refl
 
@@ -49,8 +50,8 @@ unfolding loadOutcome
 load-outcome input store = refl
 
 expand-outcome : (p out : List ℕ) → expandOutcome p out
-    ≡ unlessRefused (markCheck p) (out ∷ []) (cond (ltb (lineCount out) (length (expand (lines p)))) (outcome (refused 17 0) (out ∷ [])) (outcome (counted (length (expand (lines p)))) (atFront (flatMap codes (expand (lines p))) out ∷ [])))
-unfolding expandOutcome written
+    ≡ unlessRefused (markCheck p) (out ∷ []) (cond (ltb (lineCount out) (length (expand neighbours (lines p)))) (outcome (refused 17 0) (out ∷ [])) (outcome (counted (length (expand neighbours (lines p)))) (atFront (flatMap codes (expand neighbours (lines p))) out ∷ [])))
+unfolding expansionIn written
 expand-outcome p out = refl
 
 pub printed-is : (text : List Line → List ℕ) (input : List ℕ) → printed text input
@@ -125,10 +126,10 @@ module _ (input store new : List ℕ) (a : Answer) (small : length input ≤ inp
         expand-outcome (readInput input .stored) listing ∙ rw c (sym (load-outcome input listing ∙ rw q))
     expand-loads listing g (counts m c) =
         let p : List ℕ = readInput input .stored in
-        let x : expansionOf input ≡ expand (lines p) = expansion-of input in
-        let q : loadAnswer input ≡ counted (length (expand (lines p))) = goes-on ∙ rw (c, x) in
-        let few : length (expand (lines p)) ≤ longest * maxAccepted = expansion-most (lines p) (mark-accepted p m c) in
-        let fits : ltb (lineCount listing) (length (expand (lines p))) ≡ false = le-ltb (lineCount listing) (length (expand (lines p))) (omega arith) in
+        let x : expansionOf input ≡ expand neighbours (lines p) = expansion-of input in
+        let q : loadAnswer input ≡ counted (length (expand neighbours (lines p))) = goes-on ∙ rw (c, x) in
+        let few : length (expand neighbours (lines p)) ≤ longest * maxAccepted = expansion-most neighbours near (lines p) (mark-accepted p m c) in
+        let fits : ltb (lineCount listing) (length (expand neighbours (lines p))) ≡ false = le-ltb (lineCount listing) (length (expand neighbours (lines p))) (omega arith) in
         expand-outcome p listing ∙ rw (c, fits) (sym (load-outcome input listing ∙ rw (q, x)))
 
     pub read-expands : (listing : List ℕ) → mostNumbers ≤ length listing → expandOutcome (take (lineWidth * n) new) listing ≡ loadOutcome input listing
@@ -139,7 +140,7 @@ module _ (input store new : List ℕ) (a : Answer) (small : length input ≤ inp
 -- a program that was expanded: its lines at the front of the store, and it is what is printed
 pub record Loaded (input new : List ℕ) (n : ℕ) : Type 0 where
   pub fits : lineWidth * n ≤ length new
-  pub part : take (lineWidth * n) new ≡ flatMap codes (expand (lines (readInput input .stored)))
+  pub part : take (lineWidth * n) new ≡ flatMap codes (expand neighbours (lines (readInput input .stored)))
   pub accepted : Accepted (lines (readInput input .stored))
   pub prints : (text : List Line → List ℕ) → printed text input ≡ text (lines (readInput input .stored))
 
@@ -186,20 +187,20 @@ module _ (input store new : List ℕ) (a : Answer) (e : outcome (report a) (new 
       let p : List ℕ = readInput input .stored in
       let q : loadAnswer input ≡ counted n = count-told c loaded-answer in
       let w = passed (ltb inputSize (length input)) (readInput input .answer) (markCheck p) (length (expansionOf input)) n (sym (load-answer input) ∙ q) in
-      let x : expansionOf input ≡ expand (lines p) = expansion-of input in
-      let o : loadOutcome input store ≡ outcome (counted n) (atFront (flatMap codes (expand (lines p))) store ∷ []) = load-outcome input store ∙ rw (q, x) in
-      let s : new ≡ atFront (flatMap codes (expand (lines p))) store = ap first-store (e ∙ o) in
-      let k : length (flatMap codes (expand (lines p))) ≡ lineWidth * n = codes-length (expand (lines p)) ∙ ap (λ (i : ℕ). lineWidth * i) (ap length (sym x) ∙ w .count) in
+      let x : expansionOf input ≡ expand neighbours (lines p) = expansion-of input in
+      let o : loadOutcome input store ≡ outcome (counted n) (atFront (flatMap codes (expand neighbours (lines p))) store ∷ []) = load-outcome input store ∙ rw (q, x) in
+      let s : new ≡ atFront (flatMap codes (expand neighbours (lines p))) store = ap first-store (e ∙ o) in
+      let k : length (flatMap codes (expand neighbours (lines p))) ≡ lineWidth * n = codes-length (expand neighbours (lines p)) ∙ ap (λ (i : ℕ). lineWidth * i) (ap length (sym x) ∙ w .count) in
       record {
-        fits = omega (arith, ap length s, k, length-append (flatMap codes (expand (lines p))) (drop (length (flatMap codes (expand (lines p)))) store));
-        part = ap (take (lineWidth * n)) s ∙ take-at (flatMap codes (expand (lines p))) (drop (length (flatMap codes (expand (lines p)))) store) (lineWidth * n) k;
+        fits = omega (arith, ap length s, k, length-append (flatMap codes (expand neighbours (lines p))) (drop (length (flatMap codes (expand neighbours (lines p)))) store));
+        part = ap (take (lineWidth * n)) s ∙ take-at (flatMap codes (expand neighbours (lines p))) (drop (length (flatMap codes (expand neighbours (lines p)))) store) (lineWidth * n) k;
         accepted = accepted-source p (w .marks) (w .marked);
         prints = λ text. printed-is text input ∙ rw (w .short, w .read, w .marked);
       }
 
 -- ---- the expansion as text
 
-pub expand-prints : (input : List ℕ) → expandPrints input ≡ printed (λ p. flatMap spellLine (expand p)) input
+pub expand-prints : (input : List ℕ) → expandPrints input ≡ printed (λ p. flatMap spellLine (expand neighbours p)) input
 unfolding expandPrints
 expand-prints input = refl
 
@@ -220,17 +221,17 @@ module _ (input new : List ℕ) (n : ℕ) (l : Loaded input new n) where
   pub part-check : programCheck (take (lineWidth * n) new) ≡ counted (lineCount (take (lineWidth * n) new))
   part-check =
       let p : List Line = lines (readInput input .stored) in
-      let k : length (expand p) ≡ lineCount (flatMap codes (expand p)) = omega (arith, codes-length (expand p)) in
-      rw (l .part) (expansion-check p (l .accepted) ∙ ap counted k)
+      let k : length (expand neighbours p) ≡ lineCount (flatMap codes (expand neighbours p)) = omega (arith, codes-length (expand neighbours p)) in
+      rw (l .part) (expansion-check neighbours near p (l .accepted) ∙ ap counted k)
 
-  pub part-lines : lines (take (lineWidth * n) new) ≡ expand (lines (readInput input .stored))
-  part-lines = ap lines (l .part) ∙ expansion-lines (lines (readInput input .stored)) (l .accepted)
+  pub part-lines : lines (take (lineWidth * n) new) ≡ expand neighbours (lines (readInput input .stored))
+  part-lines = ap lines (l .part) ∙ expansion-lines neighbours near (lines (readInput input .stored)) (l .accepted)
 
   pub expansion-written : (out : List ℕ) → writeOutcome (take (lineWidth * n) new) out ≡ fitted (expandPrints input) out
   expansion-written out =
       checked-writes (take (lineWidth * n) new) out (lineCount (take (lineWidth * n) new)) part-check
-      ∙ ap (λ (t : List ℕ). fitted t out) (ap (flatMap spellLine) part-lines ∙ sym (l .prints (λ p. flatMap spellLine (expand p))) ∙ sym (expand-prints input))
+      ∙ ap (λ (t : List ℕ). fitted t out) (ap (flatMap spellLine) part-lines ∙ sym (l .prints (λ p. flatMap spellLine (expand neighbours p))) ∙ sym (expand-prints input))
 
 pub refusal-of-expansion : (input store new out : List ℕ) (a : Answer) → outcome (report a) (new ∷ []) ≡ loadOutcome input store → NoCount a → fitted (orRefusal (report a) []) out ≡ fitted (expandPrints input) out
 refusal-of-expansion input store new out a e h =
-    ap (λ (t : List ℕ). fitted t out) (refusal-printed input store new a e h (λ p. flatMap spellLine (expand p)) ∙ sym (expand-prints input))
+    ap (λ (t : List ℕ). fitted t out) (refusal-printed input store new a e h (λ p. flatMap spellLine (expand neighbours p)) ∙ sym (expand-prints input))

@@ -9,6 +9,7 @@ use borrow.Author.Tests.{eq-eqb}
 use lib.Dec.{eqb, leb, ltb}
 use lib.ListN.{length, take, drop, replicate, getElem?, length-append, length-replicate}
 use lib.Seq.{take-at, drop-at}
+use Rattle.model.specs.Layouts.{neighbours}
 use Rattle.model.specs.declared.Answer.{Answer}
 use Rattle.model.specs.declared.Line.{Line}
 use Rattle.model.specs.Limits.{lineWidth, stateSize, rowWidth}
@@ -135,10 +136,10 @@ carried-over right over from into h g e = rw (eq-eqb (length from) stateSize h, 
 abbrev pub zeros : State
 zeros = replicate stateSize 0
 
-pub zero-image : (new : State) (r : Report) → outcome r (new ∷ []) ≡ toImageOutcome zeros zeros → new ≡ image zeros
+pub zero-image : (new : State) (r : Report) → outcome r (new ∷ []) ≡ toImageOutcome zeros zeros → new ≡ image neighbours zeros
 zero-image new r e =
     let h : length zeros ≡ stateSize = length-replicate {A = ℕ} stateSize 0 in
-    ap first-store (e ∙ carried-over bitRight image zeros zeros h h (zero-bits stateSize 0))
+    ap first-store (e ∙ carried-over bitRight (image neighbours) zeros zeros h h (zero-bits stateSize 0))
 
 -- ---- a run that is not refused
 
@@ -160,7 +161,7 @@ ended-text trace word k = refl
 
 -- the text of the lines' run
 abbrev pub lineRun : List Line → List ℕ
-lineRun p = traceText p (run p traceBudget 0 (image zeros))
+lineRun p = traceText p (run p traceBudget 0 (image neighbours zeros))
 
 run-text : (p : List ℕ) → runText p ≡ lineRun (lines p)
 unfolding runText
@@ -168,13 +169,13 @@ run-text p = refl
 
 module _ (p state state′ t new : List ℕ) (a : Answer) (r : Report) (ok : programCheck p ≡ counted (lineCount p)) (made : outcome r (state ∷ []) ≡ toImageOutcome zeros zeros) (room : length t ≡ rowWidth * traceBudget) (e : outcome (report a) (state′ ∷ new ∷ []) ≡ runOutcome p 0 traceBudget state t) where
   abbrev ran : Ran
-  ran = run (lines p) traceBudget 0 (image zeros)
+  ran = run (lines p) traceBudget 0 (image neighbours zeros)
 
   leaves : outcome (report a) (state′ ∷ new ∷ []) ≡ outcome (answer (lines p) ran) (ran .state ∷ atFront (flat (ran .rows)) t ∷ [])
   leaves =
-      let s : state ≡ image zeros = zero-image state r made in
-      let h : length (image zeros) ≡ stateSize = image-length zeros ∙ length-replicate {A = ℕ} stateSize 0 in
-      e ∙ ap (λ (v : State). runOutcome p 0 traceBudget v t) s ∙ run-outcome p 0 traceBudget (lineCount p) (image zeros) t ok h (omega arith) ∙ run-leaves (lines p) ran t
+      let s : state ≡ image neighbours zeros = zero-image state r made in
+      let h : length (image neighbours zeros) ≡ stateSize = image-length neighbours zeros ∙ length-replicate {A = ℕ} stateSize 0 in
+      e ∙ ap (λ (v : State). runOutcome p 0 traceBudget v t) s ∙ run-outcome p 0 traceBudget (lineCount p) (image neighbours zeros) t ok h (omega arith) ∙ run-leaves (lines p) ran t
 
   pub answered : report a ≡ answer (lines p) ran
   answered = ap (λ (o : Outcome). o .answer) leaves
@@ -184,7 +185,7 @@ module _ (p state state′ t new : List ℕ) (a : Answer) (r : Report) (ok : pro
 
   module _ (word : List ℕ) (k : ℕ) (d : Ending (lines p) ran word k) where
     numbers : length (flat (ran .rows)) ≡ rowWidth * k
-    numbers = flat-length (ran .rows) (run-sixes (lines p) traceBudget 0 (image zeros)) ∙ ap (λ (n : ℕ). rowWidth * n) (sym (d .steps))
+    numbers = flat-length (ran .rows) (run-sixes (lines p) traceBudget 0 (image neighbours zeros)) ∙ ap (λ (n : ℕ). rowWidth * n) (sym (d .steps))
 
     pub steps-fit : rowWidth * k ≤ length new
     steps-fit = omega (arith, ap length trace-is, numbers, length-append (flat (ran .rows)) (drop (length (flat (ran .rows))) t))
@@ -193,7 +194,7 @@ module _ (p state state′ t new : List ℕ) (a : Answer) (r : Report) (ok : pro
     ended-is =
         let f : take (rowWidth * k) new ≡ flat (ran .rows) = ap (take (rowWidth * k)) trace-is ∙ take-at (flat (ran .rows)) (drop (length (flat (ran .rows))) t) (rowWidth * k) numbers in
         ended-text new word k ∙ ap (λ (l : List ℕ). linesText l word (k ∷ [])) f ∙ lines-text (flat (ran .rows)) word (k ∷ [])
-        ∙ ap₂ (λ (x y : List ℕ). x ++ y) (flat-text (ran .rows) (run-sixes (lines p) traceBudget 0 (image zeros))) (sym (d .line))
+        ∙ ap₂ (λ (x y : List ℕ). x ++ y) (flat-text (ran .rows) (run-sixes (lines p) traceBudget 0 (image neighbours zeros))) (sym (d .line))
         ∙ sym (trace-text (lines p) ran) ∙ sym (run-text p)
 
   pub never-counts : (n : ℕ) → report a ≡ counted n → ⊥
@@ -204,14 +205,14 @@ module _ (p state state′ t new : List ℕ) (a : Answer) (r : Report) (ok : pro
 
 -- ---- what the second program prints
 
-pub trace-prints : (input : List ℕ) → tracePrints input ≡ printed (λ p. lineRun (expand p)) input
+pub trace-prints : (input : List ℕ) → tracePrints input ≡ printed (λ p. lineRun (expand neighbours p)) input
 unfolding tracePrints
 trace-prints input = refl
 
 pub loaded-run : (input new : List ℕ) (n : ℕ) → Loaded input new n → runText (take (lineWidth * n) new) ≡ tracePrints input
 loaded-run input new n l =
-    run-text (take (lineWidth * n) new) ∙ ap lineRun (part-lines input new n l) ∙ sym (l .prints (λ p. lineRun (expand p))) ∙ sym (trace-prints input)
+    run-text (take (lineWidth * n) new) ∙ ap lineRun (part-lines input new n l) ∙ sym (l .prints (λ p. lineRun (expand neighbours p))) ∙ sym (trace-prints input)
 
 pub refusal-of-trace : (input store new out : List ℕ) (a : Answer) → outcome (report a) (new ∷ []) ≡ loadOutcome input store → NoCount a → fitted (orRefusal (report a) []) out ≡ fitted (tracePrints input) out
 refusal-of-trace input store new out a e h =
-    ap (λ (t : List ℕ). fitted t out) (refusal-printed input store new a e h (λ p. lineRun (expand p)) ∙ sym (trace-prints input))
+    ap (λ (t : List ℕ). fitted t out) (refusal-printed input store new a e h (λ p. lineRun (expand neighbours p)) ∙ sym (trace-prints input))

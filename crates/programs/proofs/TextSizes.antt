@@ -7,6 +7,7 @@ use mathlib.Core.Option.{Option, none, some}
 use native.Mathlib.Omega.{arith}
 use lib.Dec.{ltb}
 use lib.ListN.{length, getElem?, length-append}
+use Rattle.model.specs.Layouts.{neighbours, near}
 use Rattle.model.specs.declared.Line.{Line}
 use Rattle.model.specs.Limits.{rowWidth}
 use Rattle.model.specs.Answers.{Report, done, refused, counted, outcome, atFront}
@@ -73,8 +74,8 @@ spelled-most (l ∷ ls) h = omega (arith, length-append (spellLine l) (flatMap s
 pub expansion-most-bytes : (input : List ℕ) → length (expandPrints input) ≤ 452608
 expansion-most-bytes input =
     rw (expand-prints input)
-    (printed-most (λ p. flatMap spellLine (expand p)) 452608 (omega arith)
-    (λ p A. omega (arith, spelled-most (expand p) (expansion-correct p A), expansion-most p A)) input)
+    (printed-most (λ p. flatMap spellLine (expand neighbours p)) 452608 (omega arith)
+    (λ p A. omega (arith, spelled-most (expand neighbours p) (expansion-correct neighbours near p A), expansion-most neighbours near p A)) input)
 
 -- ---- the trace
 
@@ -117,7 +118,7 @@ trace-most p n k s =
 -- 1,000 rows of six numbers, of at most five digits each, and the last line
 pub trace-most-bytes : (input : List ℕ) → length (tracePrints input) ≤ 36013
 trace-most-bytes input =
-    rw (trace-prints input) (printed-most (λ p. lineRun (expand p)) 36013 (omega arith) (λ p A. trace-most (expand p) traceBudget 0 _) input)
+    rw (trace-prints input) (printed-most (λ p. lineRun (expand neighbours p)) 36013 (omega arith) (λ p A. trace-most (expand neighbours p) traceBudget 0 _) input)
 
 -- ---- so the programs' stores always have room
 

@@ -5,6 +5,7 @@ use mathlib.Core.List.{List, [], _∷_, flatMap}
 use Prim.Native.Nat.{ℕ, _*_}
 use lib.Dec.{ltb}
 use lib.ListN.{length}
+use Rattle.model.specs.Layouts.{neighbours}
 use Rattle.model.specs.declared.Line.{Line}
 use Rattle.model.specs.Limits.{lineWidth, longest, maxAccepted, maxLines}
 use Rattle.model.specs.Answers.{Report, counted, refused, Outcome, outcome, andThen, unlessRefused, atFront}
@@ -26,7 +27,7 @@ readInput input = reading maxLines 0 maxLines input
 -- the lines of the expansion, where nothing is refused
 unfoldable pub expansionOf : List ℕ → List Line
 unfolding readInput expand
-expansionOf input = expand (lines (readInput input .stored))
+expansionOf input = expand neighbours (lines (readInput input .stored))
 
 -- 8 a longer input, then what reading refuses, then the mark check, else the count of the expansion's lines
 unfoldable pub loadAnswer : List ℕ → Report

@@ -13,10 +13,12 @@ enum-told c = search needs
 returns : tie.Need-returns
 returns c =
     let s = c .before .before .before .before in
-    expand-stops (s .args .program .now) (s .args .out .now) (c .before .check .result) (c .match .keys2) (c .before .check .ensures)
+    expand-stops (s .args .layout) (s .args .program .now) (s .args .out .now) (c .before .check .result) (c .match .keys2) (c .before .check .ensures)
 
 write-expansion-requires : tie.Need-write-expansion-requires
-write-expansion-requires c κs = accepted-by (c .before .before .before .before .before .before .args .program .now) (c .before .before .before .check .result) _ (c .before .before .before .check .ensures) (c .before .enum-told .given .1)
+write-expansion-requires c κs =
+    let s = c .before .before .before .before .before .before in
+    (s .pre, accepted-by (s .args .program .now) (c .before .before .before .check .result) _ (c .before .before .before .check .ensures) (c .before .enum-told .given .1))
 
 same-length : tie.Need-same-length
 same-length c = search needs
@@ -24,7 +26,7 @@ same-length c = search needs
 returns-2 : tie.Need-returns-2
 returns-2 c =
     let s = c .before .before .before .before .before .before .before .before .before in
-    expand-goes-on (s .args .program .now) (s .args .out .now) _ (c .before .before .before .before .before .before .check .result) (c .before .before .write-expansion .result) _ (c .before .before .before .before .before .before .check .ensures) (c .before .before .before .before .enum-told .given .1) (c .before .before .write-expansion .ensures)
+    expand-goes-on (s .args .layout) (s .args .program .now) (s .args .out .now) _ (c .before .before .before .before .before .before .check .result) (c .before .before .write-expansion .result) _ (c .before .before .before .before .before .before .check .ensures) (c .before .before .before .before .enum-told .given .1) (c .before .before .write-expansion .ensures)
 
 pub make-expansion-spec : {M : Type 1} → statement M
 make-expansion-spec =

@@ -10,7 +10,7 @@ use Rattle.expander.proofs.write_expansion.Tie as tie
 fill-starts-requires : tie.Need-fill-starts-requires
 fill-starts-requires c κs =
     let s = c .before .before .before in
-    (accepted-few (s .args .program .now) (s .pre), refl)
+    (accepted-few (s .args .program .now) (s .pre .1), refl)
 
 mul-total : tie.Need-mul-total
 mul-total c = search needs
@@ -18,27 +18,27 @@ mul-total c = search needs
 array-read-total : tie.Need-array-read-total
 array-read-total c =
     let s = c .before .before .before .before in
-    omega (arith, accepted-few (s .args .program .now) (s .pre))
+    omega (arith, accepted-few (s .args .program .now) (s .pre .1))
 
 cast-if1 : tie.Need-cast-if1
 cast-if1 c =
     let s = c .before .before .before .before in
-    omega (arith, total-few (s .args .program .now) _ (s .args .out .now) (s .pre) (c .fill-starts .ensures))
+    omega (arith, total-few (s .args .layout) (s .pre .0) (s .args .program .now) _ (s .args .out .now) (s .pre .1) (c .fill-starts .ensures))
 
 returns : tie.Need-returns
 returns c =
     let s = c .before .before .before .before .before in
-    no-room (s .args .program .now) _ (s .args .out .now) (s .pre) (c .before .fill-starts .ensures) (c .if1 .taken)
+    no-room (s .args .layout) (s .pre .0) (s .args .program .now) _ (s .args .out .now) (s .pre .1) (c .before .fill-starts .ensures) (c .if1 .taken)
 
 put-parts-requires : tie.Need-put-parts-requires
 put-parts-requires c κs =
     let s = c .before .before .before .before .before .before .before in
-    omega (arith, total-is (s .args .program .now) _ (s .args .out .now) (s .pre) (c .before .before .before .fill-starts .ensures), c .before .before .if1 .left)
+    omega (arith, total-is (s .args .layout) (s .pre .0) (s .args .program .now) _ (s .args .out .now) (s .pre .1) (c .before .before .before .fill-starts .ensures), c .before .before .if1 .left)
 
-cast-t18 : tie.Need-cast-t18
-cast-t18 c =
+cast-t19 : tie.Need-cast-t19
+cast-t19 c =
     let s = c .before .before .before .before .before .before .before .before .before .before in
-    omega (arith, total-few (s .args .program .now) _ (s .args .out .now) (s .pre) (c .before .before .before .before .before .before .fill-starts .ensures))
+    omega (arith, total-few (s .args .layout) (s .pre .0) (s .args .program .now) _ (s .args .out .now) (s .pre .1) (c .before .before .before .before .before .before .fill-starts .ensures))
 
 same-length : tie.Need-same-length
 same-length c = search needs
@@ -46,7 +46,7 @@ same-length c = search needs
 returns-2 : tie.Need-returns-2
 returns-2 c =
     let s = c .before .before .before .before .before .before .before .before .before .before in
-    all-written (s .args .program .now) _ (s .args .out .now) (s .pre) (c .before .before .before .before .before .before .fill-starts .ensures) _ (c .before .before .before .before .before .if1 .left) (c .before .before .put-parts .ensures)
+    all-written (s .args .layout) (s .pre .0) (s .args .program .now) _ (s .args .out .now) (s .pre .1) (c .before .before .before .before .before .before .fill-starts .ensures) _ (c .before .before .before .before .before .if1 .left) (c .before .before .put-parts .ensures)
 
 pub write-expansion-spec : {M : Type 1} → statement M
 write-expansion-spec =
@@ -58,6 +58,6 @@ write-expansion-spec =
     cast-if1
     returns
     put-parts-requires
-    cast-t18
+    cast-t19
     same-length
     returns-2)

@@ -8,7 +8,7 @@ use Rattle.images.proofs.fixed_at.Statement.{statement}
 use Rattle.images.proofs.fixed_at.Tie as tie
 
 returns : tie.Need-returns
-returns c = low-fixed _ (c .if1 .taken)
+returns c = low-fixed _ (c .before .pre) _ (c .if1 .taken)
 
 page-at-requires : tie.Need-page-at-requires
 page-at-requires c κs = search needs

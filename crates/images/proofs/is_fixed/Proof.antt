@@ -18,7 +18,7 @@ fixed-at-requires : tie.Need-fixed-at-requires
 fixed-at-requires c κs = search needs
 
 returns-3 : tie.Need-returns-3
-returns-3 c = high-fixed _ _ _ (c .before .if1 .left) (c .fixed-at .ensures)
+returns-3 c = high-fixed _ _ _ _ (c .before .if1 .left) (c .fixed-at .ensures)
 
 pub is-fixed-spec : {M : Type 1} → statement M
 is-fixed-spec = tie.close (tie.spec returns returns-2 fixed-at-requires returns-3)

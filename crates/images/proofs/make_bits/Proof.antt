@@ -8,12 +8,12 @@ use Rattle.images.proofs.make_bits.Tie as tie
 returns : tie.Need-returns
 returns c =
     let s = c .before .before .before in
-    first-long imageRight back (s .args .image .now) (s .args .bits .now) (c .if1 .taken)
+    first-long (imageRight (s .args .layout)) (back (s .args .layout)) (s .args .image .now) (s .args .bits .now) (c .if1 .taken)
 
 returns-2 : tie.Need-returns-2
 returns-2 c =
     let s = c .before .before .before .before in
-    second-long imageRight back (s .args .image .now) (s .args .bits .now) (c .before .if1 .left) (c .if2 .taken)
+    second-long (imageRight (s .args .layout)) (back (s .args .layout)) (s .args .image .now) (s .args .bits .now) (c .before .if1 .left) (c .if2 .taken)
 
 places-right-requires : tie.Need-places-right-requires
 places-right-requires c κs = search needs
@@ -21,8 +21,8 @@ places-right-requires c κs = search needs
 put-back-requires : tie.Need-put-back-requires
 put-back-requires c κs = search needs
 
-cast-t9 : tie.Need-cast-t9
-cast-t9 c = search needs
+cast-t10 : tie.Need-cast-t10
+cast-t10 c = search needs
 
 same-length : tie.Need-same-length
 same-length c = search needs
@@ -31,12 +31,12 @@ returns-3 : tie.Need-returns-3
 returns-3 c =
     let s = c .before .before .before .before .before .before .before .before .before .before in
     let d = c .before .before .before .before in
-    goes-over imageRight back (s .args .image .now) (s .args .bits .now) _ _ (d .before .before .before .if1 .left) (d .before .before .if2 .left) (d .before .places-right .ensures) (d .if3 .taken) (c .before .before .put-back .ensures)
+    goes-over (imageRight (s .args .layout)) (back (s .args .layout)) (s .args .image .now) (s .args .bits .now) _ _ (d .before .before .before .if1 .left) (d .before .before .if2 .left) (d .before .places-right .ensures) (d .if3 .taken) (c .before .before .put-back .ensures)
 
 returns-4 : tie.Need-returns-4
 returns-4 c =
     let s = c .before .before .before .before .before .before in
-    turned-down imageRight back (s .args .image .now) (s .args .bits .now) _ (c .before .before .before .if1 .left) (c .before .before .if2 .left) (c .before .places-right .ensures) (c .if3 .left)
+    turned-down (imageRight (s .args .layout)) (back (s .args .layout)) (s .args .image .now) (s .args .bits .now) _ (c .before .before .before .if1 .left) (c .before .before .if2 .left) (c .before .places-right .ensures) (c .if3 .left)
 
 pub make-bits-spec : {M : Type 1} → statement M
 make-bits-spec =
@@ -46,7 +46,7 @@ make-bits-spec =
     returns-2
     places-right-requires
     put-back-requires
-    cast-t9
+    cast-t10
     same-length
     returns-3
     returns-4)

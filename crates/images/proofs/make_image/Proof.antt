@@ -8,12 +8,12 @@ use Rattle.images.proofs.make_image.Tie as tie
 returns : tie.Need-returns
 returns c =
     let s = c .before .before .before in
-    first-long bitRight image (s .args .bits .now) (s .args .image .now) (c .if1 .taken)
+    first-long bitRight (image (s .args .layout)) (s .args .bits .now) (s .args .image .now) (c .if1 .taken)
 
 returns-2 : tie.Need-returns-2
 returns-2 c =
     let s = c .before .before .before .before in
-    second-long bitRight image (s .args .bits .now) (s .args .image .now) (c .before .if1 .left) (c .if2 .taken)
+    second-long bitRight (image (s .args .layout)) (s .args .bits .now) (s .args .image .now) (c .before .if1 .left) (c .if2 .taken)
 
 bits-right-requires : tie.Need-bits-right-requires
 bits-right-requires c κs = search needs
@@ -21,8 +21,8 @@ bits-right-requires c κs = search needs
 put-image-requires : tie.Need-put-image-requires
 put-image-requires c κs = search needs
 
-cast-t9 : tie.Need-cast-t9
-cast-t9 c = search needs
+cast-t10 : tie.Need-cast-t10
+cast-t10 c = search needs
 
 same-length : tie.Need-same-length
 same-length c = search needs
@@ -31,12 +31,12 @@ returns-3 : tie.Need-returns-3
 returns-3 c =
     let s = c .before .before .before .before .before .before .before .before .before .before in
     let d = c .before .before .before .before in
-    goes-over bitRight image (s .args .bits .now) (s .args .image .now) _ _ (d .before .before .before .if1 .left) (d .before .before .if2 .left) (d .before .bits-right .ensures) (d .if3 .taken) (c .before .before .put-image .ensures)
+    goes-over bitRight (image (s .args .layout)) (s .args .bits .now) (s .args .image .now) _ _ (d .before .before .before .if1 .left) (d .before .before .if2 .left) (d .before .bits-right .ensures) (d .if3 .taken) (c .before .before .put-image .ensures)
 
 returns-4 : tie.Need-returns-4
 returns-4 c =
     let s = c .before .before .before .before .before .before in
-    turned-down bitRight image (s .args .bits .now) (s .args .image .now) _ (c .before .before .before .if1 .left) (c .before .before .if2 .left) (c .before .bits-right .ensures) (c .if3 .left)
+    turned-down bitRight (image (s .args .layout)) (s .args .bits .now) (s .args .image .now) _ (c .before .before .before .if1 .left) (c .before .before .if2 .left) (c .before .bits-right .ensures) (c .if3 .left)
 
 pub make-image-spec : {M : Type 1} → statement M
 make-image-spec =
@@ -46,7 +46,7 @@ make-image-spec =
     returns-2
     bits-right-requires
     put-image-requires
-    cast-t9
+    cast-t10
     same-length
     returns-3
     returns-4)

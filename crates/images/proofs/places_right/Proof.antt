@@ -11,10 +11,10 @@ use Rattle.images.proofs.places_right.Statement.{statement}
 use Rattle.images.proofs.places_right.Tie as tie
 
 abbrev Inv-loop : tie.InvT-loop
-Inv-loop image i₀ i = (i ≤ length image) × (every imageRight i (drop i image) ≡ every imageRight 0 image)
+Inv-loop layout image i₀ i = (i ≤ length image) × (every (imageRight layout) i (drop i image) ≡ every (imageRight layout) 0 image)
 
 abbrev μ-loop : tie.MeasureT-loop
-μ-loop image i₀ i = length image - i
+μ-loop layout image i₀ i = length image - i
 
 loop-holds : tie.Need-loop-holds Inv-loop μ-loop
 loop-holds c = (omega arith, refl)
@@ -34,12 +34,12 @@ loop-less c = search needs
 loop-again : tie.Need-loop-again Inv-loop μ-loop
 loop-again c =
     let l = c .before .before .before .before .loop in
-    (omega arith, every-pass imageRight _ (l .i) (c .before .before .before .loop-test .taken) (sym (c .before .image-right .ensures) ∙ c .if1 .taken) ∙ l .inv .1)
+    (omega arith, every-pass (imageRight (c .before .before .before .before .before .before .args .layout)) _ (l .i) (c .before .before .before .loop-test .taken) (sym (c .before .image-right .ensures) ∙ c .if1 .taken) ∙ l .inv .1)
 
 returns : tie.Need-returns Inv-loop μ-loop
 returns c =
     let l = c .before .before .before .before .loop in
-    every-fail imageRight _ (l .i) (c .before .before .before .loop-test .taken) (sym (c .before .image-right .ensures) ∙ c .if1 .left) ∙ l .inv .1
+    every-fail (imageRight (c .before .before .before .before .before .before .args .layout)) _ (l .i) (c .before .before .before .loop-test .taken) (sym (c .before .image-right .ensures) ∙ c .if1 .left) ∙ l .inv .1
 
 returns-2 : tie.Need-returns-2 Inv-loop μ-loop
 returns-2 c = every-end _ _ _ (search needs) ∙ c .before .loop .inv .1

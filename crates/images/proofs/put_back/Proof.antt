@@ -11,10 +11,10 @@ use Rattle.images.proofs.put_back.Statement.{statement}
 use Rattle.images.proofs.put_back.Tie as tie
 
 abbrev Inv-loop : tie.InvT-loop
-Inv-loop image bits₀ i₀ bits i = (i ≤ length image) × (length bits ≡ length bits₀) × (bits ≡ front (mapAt backAt 0 image) bits₀ i)
+Inv-loop layout image bits₀ i₀ bits i = (i ≤ length image) × (length bits ≡ length bits₀) × (bits ≡ front (mapAt (backAt layout) 0 image) bits₀ i)
 
 abbrev μ-loop : tie.MeasureT-loop
-μ-loop image bits₀ i₀ bits i = length image - i
+μ-loop layout image bits₀ i₀ bits i = length image - i
 
 loop-holds : tie.Need-loop-holds Inv-loop μ-loop
 loop-holds c = (omega arith, refl, refl)
@@ -37,7 +37,7 @@ loop-less c = search needs
 loop-again : tie.Need-loop-again Inv-loop μ-loop
 loop-again c =
     let l = c .before .before .before .loop in
-    (omega arith, simp length-set (l .inv .1), map-next backAt _ _ _ _ _ (l .inv .2) (c .back-at .ensures) (omega arith) (omega arith))
+    (omega arith, simp length-set (l .inv .1), map-next (backAt (c .before .before .before .before .before .before .args .layout)) _ _ _ _ _ (l .inv .2) (c .back-at .ensures) (omega arith) (omega arith))
 
 same-length : tie.Need-same-length Inv-loop μ-loop
 same-length c = search needs
@@ -47,7 +47,7 @@ unfolding back
 returns c =
     let s = c .before .before .before .before in
     let a = s .args in
-    map-all backAt (a .image .now) (a .bits .now) _ _ (c .before .loop .inv .2) (c .loop-test .left) (s .pre)
+    map-all (backAt (a .layout)) (a .image .now) (a .bits .now) _ _ (c .before .loop .inv .2) (c .loop-test .left) (s .pre)
 
 pub put-back-spec : {M : Type 1} → statement M
 put-back-spec =

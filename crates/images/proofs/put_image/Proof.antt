@@ -11,10 +11,10 @@ use Rattle.images.proofs.put_image.Statement.{statement}
 use Rattle.images.proofs.put_image.Tie as tie
 
 abbrev Inv-loop : tie.InvT-loop
-Inv-loop bits image₀ i₀ image i = (i ≤ length bits) × (length image ≡ length image₀) × (image ≡ front (mapAt imageAt 0 bits) image₀ i)
+Inv-loop layout bits image₀ i₀ image i = (i ≤ length bits) × (length image ≡ length image₀) × (image ≡ front (mapAt (imageAt layout) 0 bits) image₀ i)
 
 abbrev μ-loop : tie.MeasureT-loop
-μ-loop bits image₀ i₀ image i = length bits - i
+μ-loop layout bits image₀ i₀ image i = length bits - i
 
 loop-holds : tie.Need-loop-holds Inv-loop μ-loop
 loop-holds c = (omega arith, refl, refl)
@@ -37,7 +37,7 @@ loop-less c = search needs
 loop-again : tie.Need-loop-again Inv-loop μ-loop
 loop-again c =
     let l = c .before .before .before .loop in
-    (omega arith, simp length-set (l .inv .1), map-next imageAt _ _ _ _ _ (l .inv .2) (c .image-at .ensures) (omega arith) (omega arith))
+    (omega arith, simp length-set (l .inv .1), map-next (imageAt (c .before .before .before .before .before .before .args .layout)) _ _ _ _ _ (l .inv .2) (c .image-at .ensures) (omega arith) (omega arith))
 
 same-length : tie.Need-same-length Inv-loop μ-loop
 same-length c = search needs
@@ -47,7 +47,7 @@ unfolding image
 returns c =
     let s = c .before .before .before .before in
     let a = s .args in
-    map-all imageAt (a .bits .now) (a .image .now) _ _ (c .before .loop .inv .2) (c .loop-test .left) (s .pre)
+    map-all (imageAt (a .layout)) (a .bits .now) (a .image .now) _ _ (c .before .loop .inv .2) (c .loop-test .left) (s .pre .1)
 
 pub put-image-spec : {M : Type 1} → statement M
 put-image-spec =

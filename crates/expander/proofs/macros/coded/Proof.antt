@@ -16,19 +16,15 @@ cast-code-of c = search needs
 code-of-requires : tie.Need-code-of-requires
 code-of-requires c κs = search needs
 
-cast-result : tie.Need-cast-result
-cast-result c = search needs
-
-add-result : tie.Need-add-result
-add-result c = search needs
+literal-requires : tie.Need-literal-requires
+literal-requires c κs = search needs
 
 returns-2 : tie.Need-returns-2
-returns-2 c = coded-literal _ _ (c .before .before .if1 .left) (c .before .if2 .taken) (c .code-of .ensures) (search needs)
+returns-2 c = coded-literal _ _ _ _ (c .before .before .before .if1 .left) (c .before .before .if2 .taken) (c .before .code-of .ensures) (c .literal .ensures)
 
 returns-3 : tie.Need-returns-3
-returns-3 c = coded-other _ (c .if2 .left)
+returns-3 c = coded-other _ _ (c .if2 .left)
 
 pub coded-spec : {M : Type 1} → statement M
 coded-spec =
-    tie.close
-    (tie.spec returns cast-code-of code-of-requires cast-result add-result returns-2 returns-3)
+    tie.close (tie.spec returns cast-code-of code-of-requires literal-requires returns-2 returns-3)

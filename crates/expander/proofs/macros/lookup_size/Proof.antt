@@ -1,9 +1,9 @@
 -- `expander::macros::lookup_size` meets its contract. The lengths of the pieces are added. Assumes nothing.
 use native.Mathlib.Omega.{arith}
 use Rattle.model.specs.Stored.{operandOf}
-use Rattle.model.specs.Expansion.{scale, combine, fetch, writeBack}
+use Rattle.model.specs.Expansion.{combine, fetch, writeBack}
 use Rattle.model.proofs.Loads.{load-size}
-use Rattle.model.proofs.Lengths.{lookup-pieces}
+use Rattle.model.proofs.Lengths.{scale-size, lookup-pieces}
 use borrow.Author.Needs.{needs}
 use Rattle.expander.proofs.macros.lookup_size.Statement.{statement}
 use Rattle.expander.proofs.macros.lookup_size.Tie as tie
@@ -11,29 +11,47 @@ use Rattle.expander.proofs.macros.lookup_size.Tie as tie
 load-size-requires : tie.Need-load-size-requires
 load-size-requires c κs = search needs
 
+scale-size-requires : tie.Need-scale-size-requires
+scale-size-requires c κs = search needs
+
 add-result : tie.Need-add-result
-add-result c = record { fits = omega (arith, load-size 1 (operandOf (c .before .args .a)), c .load-size .ensures 1) }
+add-result c =
+    let z = c in
+    let f = z .before in
+    let s = f .before in
+    record { fits = omega (arith, load-size 1 (operandOf (s .args .a)), f .load-size .ensures 1, scale-size (s .args .layout), z .scale-size .ensures) }
 
 load-size-requires-2 : tie.Need-load-size-requires-2
 load-size-requires-2 c κs = search needs
 
 add-result-2 : tie.Need-add-result-2
 add-result-2 c =
-    let f = c .before in
+    let z = c .before in
+    let f = z .before in
     let s = f .before in
-    record { fits = omega (arith, load-size 1 (operandOf (s .args .a)), f .load-size .ensures 1, load-size 2 (operandOf (s .args .b)), c .load-size2 .ensures 2) }
+    record { fits = omega (arith, load-size 1 (operandOf (s .args .a)), f .load-size .ensures 1, scale-size (s .args .layout), z .scale-size .ensures, load-size 2 (operandOf (s .args .b)), c .load-size2 .ensures 2) }
 
 add-result-3 : tie.Need-add-result-3
 add-result-3 c =
-    let f = c .before in
+    let z = c .before in
+    let f = z .before in
     let s = f .before in
-    record { fits = omega (arith, load-size 1 (operandOf (s .args .a)), f .load-size .ensures 1, load-size 2 (operandOf (s .args .b)), c .load-size2 .ensures 2) }
+    record { fits = omega (arith, load-size 1 (operandOf (s .args .a)), f .load-size .ensures 1, scale-size (s .args .layout), z .scale-size .ensures, load-size 2 (operandOf (s .args .b)), c .load-size2 .ensures 2) }
 
 returns : tie.Need-returns
-unfolding scale combine fetch writeBack
-returns c = λ t d. rw lookup-pieces (omega (arith, c .before .load-size .ensures 1, c .load-size2 .ensures 2))
+unfolding combine fetch writeBack
+returns c = λ t d.
+    let z = c .before in
+    rw lookup-pieces (omega (arith, z .before .load-size .ensures 1, z .scale-size .ensures, c .load-size2 .ensures 2))
 
 pub lookup-size-spec : {M : Type 1} → statement M
 lookup-size-spec =
     tie.close
-    (tie.spec load-size-requires add-result load-size-requires-2 add-result-2 add-result-3 returns)
+    (tie.spec
+    load-size-requires
+    scale-size-requires
+    add-result
+    load-size-requires-2
+    add-result-2
+    add-result-3
+    returns)

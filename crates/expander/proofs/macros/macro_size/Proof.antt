@@ -73,55 +73,55 @@ enum-told-13 c = search needs
 
 returns : tie.Need-returns
 unfolding macro
-returns c = λ d. at-opcode _ Nop _ d _ _ (c .enum-told .given .1) refl
+returns c = λ d. at-opcode _ _ Nop _ d _ _ (c .enum-told .given .1) refl
 
 returns-2 : tie.Need-returns-2
 unfolding macro
-returns-2 c = λ d. at-opcode _ Jmp _ d _ _ (c .enum-told2 .given .1) refl
+returns-2 c = λ d. at-opcode _ _ Jmp _ d _ _ (c .enum-told2 .given .1) refl
 
 returns-3 : tie.Need-returns-3
 unfolding macro flip writeBack
-returns-3 c = λ d. at-opcode _ Not _ d _ _ (c .before .enum-told3 .given .1) (rw negate-pieces (omega (arith, c .load-size .ensures 1)))
+returns-3 c = λ d. at-opcode _ _ Not _ d _ _ (c .before .enum-told3 .given .1) (rw negate-pieces (omega (arith, c .load-size .ensures 1)))
 
 returns-4 : tie.Need-returns-4
 unfolding macro writeBack
-returns-4 c = λ d. at-opcode _ Mov _ d _ _ (c .before .enum-told4 .given .1) (rw copy-pieces (omega (arith, c .load-size2 .ensures 3)))
+returns-4 c = λ d. at-opcode _ _ Mov _ d _ _ (c .before .enum-told4 .given .1) (rw copy-pieces (omega (arith, c .load-size2 .ensures 3)))
 
 returns-5 : tie.Need-returns-5
 unfolding macro
-returns-5 c = λ d. at-opcode _ And _ d _ _ (c .before .enum-told5 .given .1) (c .lookup-size .ensures _ d)
+returns-5 c = λ d. at-opcode _ _ And _ d _ _ (c .before .enum-told5 .given .1) (c .lookup-size .ensures _ d)
 
 returns-6 : tie.Need-returns-6
 unfolding macro
-returns-6 c = λ d. at-opcode _ Orr _ d _ _ (c .before .enum-told6 .given .1) (c .lookup-size2 .ensures _ d)
+returns-6 c = λ d. at-opcode _ _ Orr _ d _ _ (c .before .enum-told6 .given .1) (c .lookup-size2 .ensures _ d)
 
 returns-7 : tie.Need-returns-7
 unfolding macro
-returns-7 c = λ d. at-opcode _ Xor _ d _ _ (c .before .enum-told7 .given .1) (c .lookup-size3 .ensures _ d)
+returns-7 c = λ d. at-opcode _ _ Xor _ d _ _ (c .before .enum-told7 .given .1) (c .lookup-size3 .ensures _ d)
 
 returns-8 : tie.Need-returns-8
 unfolding macro
-returns-8 c = λ d. at-opcode _ Lsl _ d _ _ (c .enum-told8 .given .1) refl
+returns-8 c = λ d. at-opcode _ _ Lsl _ d _ _ (c .enum-told8 .given .1) refl
 
 returns-9 : tie.Need-returns-9
 unfolding macro
-returns-9 c = λ d. at-opcode _ Lsr _ d _ _ (c .enum-told9 .given .1) refl
+returns-9 c = λ d. at-opcode _ _ Lsr _ d _ _ (c .enum-told9 .given .1) refl
 
 returns-10 : tie.Need-returns-10
 unfolding macro
-returns-10 c = λ d. at-opcode _ Add _ d _ _ (c .enum-told10 .given .1) refl
+returns-10 c = λ d. at-opcode _ _ Add _ d _ _ (c .enum-told10 .given .1) refl
 
 returns-11 : tie.Need-returns-11
 unfolding macro
-returns-11 c = λ d. at-opcode _ Mul _ d _ _ (c .enum-told11 .given .1) refl
+returns-11 c = λ d. at-opcode _ _ Mul _ d _ _ (c .enum-told11 .given .1) refl
 
 returns-12 : tie.Need-returns-12
 unfolding macro
-returns-12 c = λ d. at-opcode _ Beq _ d _ _ (c .enum-told12 .given .1) refl
+returns-12 c = λ d. at-opcode _ _ Beq _ d _ _ (c .enum-told12 .given .1) refl
 
 returns-13 : tie.Need-returns-13
 unfolding macro
-returns-13 c = λ d. at-opcode _ Bne _ d _ _ (c .enum-told13 .given .1) refl
+returns-13 c = λ d. at-opcode _ _ Bne _ d _ _ (c .enum-told13 .given .1) refl
 
 pub macro-size-spec : {M : Type 1} → statement M
 macro-size-spec =

@@ -5,6 +5,9 @@ use borrow.Author.Needs.{needs}
 use Rattle.expander.proofs.macros.put_combine.Statement.{statement}
 use Rattle.expander.proofs.macros.put_combine.Tie as tie
 
+literal-requires : tie.Need-literal-requires
+literal-requires c κs = search needs
+
 put-marked-requires : tie.Need-put-marked-requires
 unfolding combine
 put-marked-requires c κs = search needs
@@ -17,8 +20,9 @@ same-length : tie.Need-same-length
 same-length c = search needs
 
 returns : tie.Need-returns
-returns c = combine-wrote (c .before .before .before .before .before .before .put-marked .ensures) (c .before .before .put-marked2 .ensures)
+returns c = combine-wrote _ _ (c .before .before .before .before .before .before .before .literal .ensures) (c .before .before .before .before .before .before .put-marked .ensures) (c .before .before .put-marked2 .ensures)
 
 pub put-combine-spec : {M : Type 1} → statement M
 put-combine-spec =
-    tie.close (tie.spec put-marked-requires put-marked-requires-2 same-length returns)
+    tie.close
+    (tie.spec literal-requires put-marked-requires put-marked-requires-2 same-length returns)

@@ -5,6 +5,9 @@ use borrow.Author.Needs.{needs}
 use Rattle.expander.proofs.macros.put_flip.Statement.{statement}
 use Rattle.expander.proofs.macros.put_flip.Tie as tie
 
+literal-requires : tie.Need-literal-requires
+literal-requires c κs = search needs
+
 put-marked-requires : tie.Need-put-marked-requires
 unfolding flip
 put-marked-requires c κs = search needs
@@ -13,7 +16,7 @@ same-length : tie.Need-same-length
 same-length c = search needs
 
 returns : tie.Need-returns
-returns c = flip-wrote (c .before .before .put-marked .ensures)
+returns c = flip-wrote _ _ (c .before .before .before .literal .ensures) (c .before .before .put-marked .ensures)
 
 pub put-flip-spec : {M : Type 1} → statement M
-put-flip-spec = tie.close (tie.spec put-marked-requires same-length returns)
+put-flip-spec = tie.close (tie.spec literal-requires put-marked-requires same-length returns)

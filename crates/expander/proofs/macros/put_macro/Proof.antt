@@ -21,7 +21,7 @@ put-negate-requires : tie.Need-put-negate-requires
 unfolding macro
 put-negate-requires c κs =
     let s = c .before .before .before .before in
-    macro-room _ Not (operandOf (s .args .d)) (operandOf (s .args .a)) (operandOf (s .args .b)) (c .before .enum-told3 .given .1) (s .args .out .now) (s .args .at) (s .pre)
+    macro-room (s .args .layout) _ Not (operandOf (s .args .d)) (operandOf (s .args .a)) (operandOf (s .args .b)) (c .before .enum-told3 .given .1) (s .args .out .now) (s .args .at) (s .pre)
 
 enum-told-4 : tie.Need-enum-told-4
 enum-told-4 c = search needs
@@ -30,7 +30,7 @@ put-copy-requires : tie.Need-put-copy-requires
 unfolding macro
 put-copy-requires c κs =
     let s = c .before .before .before .before in
-    macro-room _ Mov (operandOf (s .args .d)) (operandOf (s .args .a)) (operandOf (s .args .b)) (c .before .enum-told4 .given .1) (s .args .out .now) (s .args .at) (s .pre)
+    macro-room (s .args .layout) _ Mov (operandOf (s .args .d)) (operandOf (s .args .a)) (operandOf (s .args .b)) (c .before .enum-told4 .given .1) (s .args .out .now) (s .args .at) (s .pre)
 
 enum-told-5 : tie.Need-enum-told-5
 enum-told-5 c = search needs
@@ -39,7 +39,7 @@ put-lookup-requires : tie.Need-put-lookup-requires
 unfolding macro
 put-lookup-requires c κs =
     let s = c .before .before .before .before in
-    macro-room _ And (operandOf (s .args .d)) (operandOf (s .args .a)) (operandOf (s .args .b)) (c .before .enum-told5 .given .1) (s .args .out .now) (s .args .at) (s .pre)
+    macro-room (s .args .layout) _ And (operandOf (s .args .d)) (operandOf (s .args .a)) (operandOf (s .args .b)) (c .before .enum-told5 .given .1) (s .args .out .now) (s .args .at) (s .pre)
 
 enum-told-6 : tie.Need-enum-told-6
 enum-told-6 c = search needs
@@ -48,7 +48,7 @@ put-lookup-requires-2 : tie.Need-put-lookup-requires-2
 unfolding macro
 put-lookup-requires-2 c κs =
     let s = c .before .before .before .before in
-    macro-room _ Orr (operandOf (s .args .d)) (operandOf (s .args .a)) (operandOf (s .args .b)) (c .before .enum-told6 .given .1) (s .args .out .now) (s .args .at) (s .pre)
+    macro-room (s .args .layout) _ Orr (operandOf (s .args .d)) (operandOf (s .args .a)) (operandOf (s .args .b)) (c .before .enum-told6 .given .1) (s .args .out .now) (s .args .at) (s .pre)
 
 enum-told-7 : tie.Need-enum-told-7
 enum-told-7 c = search needs
@@ -57,7 +57,7 @@ put-lookup-requires-3 : tie.Need-put-lookup-requires-3
 unfolding macro
 put-lookup-requires-3 c κs =
     let s = c .before .before .before .before in
-    macro-room _ Xor (operandOf (s .args .d)) (operandOf (s .args .a)) (operandOf (s .args .b)) (c .before .enum-told7 .given .1) (s .args .out .now) (s .args .at) (s .pre)
+    macro-room (s .args .layout) _ Xor (operandOf (s .args .d)) (operandOf (s .args .a)) (operandOf (s .args .b)) (c .before .enum-told7 .given .1) (s .args .out .now) (s .args .at) (s .pre)
 
 enum-told-8 : tie.Need-enum-told-8
 enum-told-8 c = search needs
@@ -81,13 +81,13 @@ returns : tie.Need-returns
 unfolding macro
 returns c =
     let s = c .before .before .before in
-    nothing-wrote _ Nop (operandOf (s .args .d)) (operandOf (s .args .a)) (operandOf (s .args .b)) (c .enum-told .given .1) (s .args .out .now) (s .args .at) refl (s .pre)
+    nothing-wrote (s .args .layout) _ Nop (operandOf (s .args .d)) (operandOf (s .args .a)) (operandOf (s .args .b)) (c .enum-told .given .1) (s .args .out .now) (s .args .at) refl (s .pre)
 
 returns-2 : tie.Need-returns-2
 unfolding macro
 returns-2 c =
     let s = c .before .before .before in
-    nothing-wrote _ Jmp (operandOf (s .args .d)) (operandOf (s .args .a)) (operandOf (s .args .b)) (c .enum-told2 .given .1) (s .args .out .now) (s .args .at) refl (s .pre)
+    nothing-wrote (s .args .layout) _ Jmp (operandOf (s .args .d)) (operandOf (s .args .a)) (operandOf (s .args .b)) (c .enum-told2 .given .1) (s .args .out .now) (s .args .at) refl (s .pre)
 
 same-length : tie.Need-same-length
 same-length c = search needs
@@ -97,7 +97,7 @@ unfolding macro
 returns-3 c =
     let m = c .before .before .before .before in
     let s = m .before .before .before in
-    macro-wrote _ Not (operandOf (s .args .d)) (operandOf (s .args .a)) (operandOf (s .args .b)) (m .enum-told3 .given .1) (c .before .before .put-negate .ensures)
+    macro-wrote (s .args .layout) _ Not (operandOf (s .args .d)) (operandOf (s .args .a)) (operandOf (s .args .b)) (m .enum-told3 .given .1) (c .before .before .put-negate .ensures)
 
 same-length-2 : tie.Need-same-length-2
 same-length-2 c = search needs
@@ -107,7 +107,7 @@ unfolding macro
 returns-4 c =
     let m = c .before .before .before .before in
     let s = m .before .before .before in
-    macro-wrote _ Mov (operandOf (s .args .d)) (operandOf (s .args .a)) (operandOf (s .args .b)) (m .enum-told4 .given .1) (c .before .before .put-copy .ensures)
+    macro-wrote (s .args .layout) _ Mov (operandOf (s .args .d)) (operandOf (s .args .a)) (operandOf (s .args .b)) (m .enum-told4 .given .1) (c .before .before .put-copy .ensures)
 
 same-length-3 : tie.Need-same-length-3
 same-length-3 c = search needs
@@ -117,7 +117,7 @@ unfolding macro
 returns-5 c =
     let m = c .before .before .before .before in
     let s = m .before .before .before in
-    macro-wrote _ And (operandOf (s .args .d)) (operandOf (s .args .a)) (operandOf (s .args .b)) (m .enum-told5 .given .1) (c .before .before .put-lookup .ensures)
+    macro-wrote (s .args .layout) _ And (operandOf (s .args .d)) (operandOf (s .args .a)) (operandOf (s .args .b)) (m .enum-told5 .given .1) (c .before .before .put-lookup .ensures)
 
 same-length-4 : tie.Need-same-length-4
 same-length-4 c = search needs
@@ -127,7 +127,7 @@ unfolding macro
 returns-6 c =
     let m = c .before .before .before .before in
     let s = m .before .before .before in
-    macro-wrote _ Orr (operandOf (s .args .d)) (operandOf (s .args .a)) (operandOf (s .args .b)) (m .enum-told6 .given .1) (c .before .before .put-lookup2 .ensures)
+    macro-wrote (s .args .layout) _ Orr (operandOf (s .args .d)) (operandOf (s .args .a)) (operandOf (s .args .b)) (m .enum-told6 .given .1) (c .before .before .put-lookup2 .ensures)
 
 same-length-5 : tie.Need-same-length-5
 same-length-5 c = search needs
@@ -137,43 +137,43 @@ unfolding macro
 returns-7 c =
     let m = c .before .before .before .before in
     let s = m .before .before .before in
-    macro-wrote _ Xor (operandOf (s .args .d)) (operandOf (s .args .a)) (operandOf (s .args .b)) (m .enum-told7 .given .1) (c .before .before .put-lookup3 .ensures)
+    macro-wrote (s .args .layout) _ Xor (operandOf (s .args .d)) (operandOf (s .args .a)) (operandOf (s .args .b)) (m .enum-told7 .given .1) (c .before .before .put-lookup3 .ensures)
 
 returns-8 : tie.Need-returns-8
 unfolding macro
 returns-8 c =
     let s = c .before .before .before in
-    nothing-wrote _ Lsl (operandOf (s .args .d)) (operandOf (s .args .a)) (operandOf (s .args .b)) (c .enum-told8 .given .1) (s .args .out .now) (s .args .at) refl (s .pre)
+    nothing-wrote (s .args .layout) _ Lsl (operandOf (s .args .d)) (operandOf (s .args .a)) (operandOf (s .args .b)) (c .enum-told8 .given .1) (s .args .out .now) (s .args .at) refl (s .pre)
 
 returns-9 : tie.Need-returns-9
 unfolding macro
 returns-9 c =
     let s = c .before .before .before in
-    nothing-wrote _ Lsr (operandOf (s .args .d)) (operandOf (s .args .a)) (operandOf (s .args .b)) (c .enum-told9 .given .1) (s .args .out .now) (s .args .at) refl (s .pre)
+    nothing-wrote (s .args .layout) _ Lsr (operandOf (s .args .d)) (operandOf (s .args .a)) (operandOf (s .args .b)) (c .enum-told9 .given .1) (s .args .out .now) (s .args .at) refl (s .pre)
 
 returns-10 : tie.Need-returns-10
 unfolding macro
 returns-10 c =
     let s = c .before .before .before in
-    nothing-wrote _ Add (operandOf (s .args .d)) (operandOf (s .args .a)) (operandOf (s .args .b)) (c .enum-told10 .given .1) (s .args .out .now) (s .args .at) refl (s .pre)
+    nothing-wrote (s .args .layout) _ Add (operandOf (s .args .d)) (operandOf (s .args .a)) (operandOf (s .args .b)) (c .enum-told10 .given .1) (s .args .out .now) (s .args .at) refl (s .pre)
 
 returns-11 : tie.Need-returns-11
 unfolding macro
 returns-11 c =
     let s = c .before .before .before in
-    nothing-wrote _ Mul (operandOf (s .args .d)) (operandOf (s .args .a)) (operandOf (s .args .b)) (c .enum-told11 .given .1) (s .args .out .now) (s .args .at) refl (s .pre)
+    nothing-wrote (s .args .layout) _ Mul (operandOf (s .args .d)) (operandOf (s .args .a)) (operandOf (s .args .b)) (c .enum-told11 .given .1) (s .args .out .now) (s .args .at) refl (s .pre)
 
 returns-12 : tie.Need-returns-12
 unfolding macro
 returns-12 c =
     let s = c .before .before .before in
-    nothing-wrote _ Beq (operandOf (s .args .d)) (operandOf (s .args .a)) (operandOf (s .args .b)) (c .enum-told12 .given .1) (s .args .out .now) (s .args .at) refl (s .pre)
+    nothing-wrote (s .args .layout) _ Beq (operandOf (s .args .d)) (operandOf (s .args .a)) (operandOf (s .args .b)) (c .enum-told12 .given .1) (s .args .out .now) (s .args .at) refl (s .pre)
 
 returns-13 : tie.Need-returns-13
 unfolding macro
 returns-13 c =
     let s = c .before .before .before in
-    nothing-wrote _ Bne (operandOf (s .args .d)) (operandOf (s .args .a)) (operandOf (s .args .b)) (c .enum-told13 .given .1) (s .args .out .now) (s .args .at) refl (s .pre)
+    nothing-wrote (s .args .layout) _ Bne (operandOf (s .args .d)) (operandOf (s .args .a)) (operandOf (s .args .b)) (c .enum-told13 .given .1) (s .args .out .now) (s .args .at) refl (s .pre)
 
 pub put-macro-spec : {M : Type 1} → statement M
 put-macro-spec =

@@ -1,29 +1,44 @@
--- `expander::macros::put_scale` meets its contract. Its three lines, one after the other. Assumes nothing.
-use Rattle.model.specs.Expansion.{scale}
-use Rattle.expander.proofs.PieceWrites.{scale-wrote}
+-- `expander::macros::put_scale` meets its contract. Its lines, one after the other, by whether the bits are spaced. Assumes nothing.
+use native.Mathlib.Omega.{arith}
+use Rattle.model.proofs.Lengths.{scale-size, scale-near}
+use Rattle.expander.proofs.PieceWrites.{spaced-wrote, near-wrote}
 use borrow.Author.Needs.{needs}
 use Rattle.expander.proofs.macros.put_scale.Statement.{statement}
 use Rattle.expander.proofs.macros.put_scale.Tie as tie
 
+literal-requires : tie.Need-literal-requires
+literal-requires c κs = search needs
+
 put-marked-requires : tie.Need-put-marked-requires
-unfolding scale
-put-marked-requires c κs = search needs
+put-marked-requires c κs = omega (arith, scale-size (c .before .before .before .args .layout))
 
 put-marked-requires-2 : tie.Need-put-marked-requires-2
-unfolding scale
-put-marked-requires-2 c κs = search needs
-
-put-marked-requires-3 : tie.Need-put-marked-requires-3
-unfolding scale
-put-marked-requires-3 c κs = search needs
+put-marked-requires-2 c κs = omega (arith, scale-size (c .before .before .before .before .before .before .before .args .layout))
 
 same-length : tie.Need-same-length
 same-length c = search needs
 
 returns : tie.Need-returns
-returns c = scale-wrote (c .before .before .before .before .before .before .before .before .before .before .put-marked .ensures) (c .before .before .before .before .before .before .put-marked2 .ensures) (c .before .before .put-marked3 .ensures)
+returns c = spaced-wrote _ _ (c .before .before .before .before .before .before .before .before .literal .ensures) (c .if1 .taken) (c .before .before .before .before .before .before .before .put-marked .ensures) (c .before .before .before .put-marked2 .ensures)
+
+put-marked-requires-3 : tie.Need-put-marked-requires-3
+put-marked-requires-3 c κs = omega (arith, scale-near (c .before .before .before .before .before .before .before .before .before .before .before .before .args .layout) (c .before .if1 .left))
+
+same-length-2 : tie.Need-same-length-2
+same-length-2 c = search needs
+
+returns-2 : tie.Need-returns-2
+returns-2 c = near-wrote _ _ (c .before .before .before .before .before .before .before .before .before .before .before .before .literal .ensures) (c .before .before .before .before .if1 .left) (c .before .before .before .before .before .before .before .before .before .before .before .put-marked .ensures) (c .before .before .before .before .before .before .before .put-marked2 .ensures) (c .before .before .put-marked3 .ensures)
 
 pub put-scale-spec : {M : Type 1} → statement M
 put-scale-spec =
     tie.close
-    (tie.spec put-marked-requires put-marked-requires-2 put-marked-requires-3 same-length returns)
+    (tie.spec
+    literal-requires
+    put-marked-requires
+    put-marked-requires-2
+    same-length
+    returns
+    put-marked-requires-3
+    same-length-2
+    returns-2)

@@ -14,7 +14,7 @@ array-read-if1 c = search needs
 returns : tie.Need-returns
 returns c =
     let s = c .before .before .before in
-    plain-length (s .args .program .now) _ (s .args .i) (c .before .numbers-at .ensures) (c .if1 .taken)
+    plain-length (s .args .layout) (s .args .program .now) _ (s .args .i) (c .before .numbers-at .ensures) (c .if1 .taken)
 
 array-read-opcode-of : tie.Need-array-read-opcode-of
 array-read-opcode-of c = search needs
@@ -43,7 +43,7 @@ returns-2 c =
     let n = o .before .before in
     let s = n .before .before in
     c .macro-size .ensures _
-    ∙ marked-length (s .args .program .now) _ (s .args .i) (n .numbers-at .ensures) _ _ _ (o .opcode-of .ensures) (o .before .if1 .left) (c .before .before .coded .ensures) (c .before .coded2 .ensures)
+    ∙ marked-length (s .args .layout) (s .args .program .now) _ (s .args .i) (n .numbers-at .ensures) _ _ _ (o .opcode-of .ensures) (o .before .if1 .left) (c .before .before .coded .ensures) (c .before .coded2 .ensures)
 
 pub size-at-spec : {M : Type 1} → statement M
 size-at-spec =

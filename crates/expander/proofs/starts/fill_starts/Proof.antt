@@ -5,6 +5,7 @@ use mathlib.Core.Path.{_≡_, sym}
 use lib.ListN.{length, length-set}
 use native.Mathlib.Omega.{arith}
 use borrow.Author.Needs.{needs}
+use Rattle.model.specs.Limits.{maxAccepted, longest}
 use Rattle.model.specs.Stored.{lineAt, lines}
 use Rattle.model.specs.Expansion.{start}
 use Rattle.model.proofs.ExpansionLaws.{size-most}
@@ -14,16 +15,18 @@ use Rattle.expander.proofs.starts.fill_starts.Statement.{statement}
 use Rattle.expander.proofs.starts.fill_starts.Tie as tie
 
 abbrev Inv-loop : tie.InvT-loop
-Inv-loop program starts₀ count i₀ sum₀ starts i sum = (i ≤ count) × (sum ≤ 13 * i) × (sum ≡ start (lines program) i) × (length starts ≡ 1025) × Starts starts (lines program) i
+Inv-loop layout program starts₀ count i₀ sum₀ starts i sum = (i ≤ count) × (sum ≤ longest * i) × (sum ≡ start layout (lines program) i) × (length starts ≡ maxAccepted + 1) × Starts layout starts (lines program) i
 
 abbrev μ-loop : tie.MeasureT-loop
-μ-loop program starts₀ count i₀ sum₀ starts i sum = count - i
+μ-loop layout program starts₀ count i₀ sum₀ starts i sum = count - i
 
 element-write-starts : tie.Need-element-write-starts Inv-loop μ-loop
 element-write-starts c = search needs
 
 loop-holds : tie.Need-loop-holds Inv-loop μ-loop
-loop-holds c = (omega arith, omega arith, sym (start-zero (lines (c .before .args .program .now))), simp length-set (c .before .pre .1), starts-none (c .before .args .starts .now) _ (omega (arith, c .before .pre .1)))
+loop-holds c =
+    let s = c .before in
+    (omega arith, omega arith, sym (start-zero (s .args .layout) (lines (s .args .program .now))), simp length-set (s .pre .1), starts-none (s .args .layout) (s .args .starts .now) _ (omega (arith, s .pre .1)))
 
 size-at-requires : tie.Need-size-at-requires Inv-loop μ-loop
 size-at-requires c κs = search needs
@@ -32,7 +35,7 @@ add-sum : tie.Need-add-sum Inv-loop μ-loop
 add-sum c =
     let s = c .before .before .before .before in
     let l = c .before .before .loop in
-    record { fits = omega (arith, size-most (lineAt (s .args .program .now) (l .i)), c .size-at .ensures) }
+    record { fits = omega (arith, size-most (s .args .layout) (lineAt (s .args .program .now) (l .i)), c .size-at .ensures) }
 
 add-i : tie.Need-add-i Inv-loop μ-loop
 add-i c = search needs
@@ -50,11 +53,11 @@ loop-again : tie.Need-loop-again Inv-loop μ-loop
 loop-again c =
     let s = c .before .before .before .before in
     let l = c .before .before .loop in
-    let e : l .sum + c .size-at .result ≡ start (lines (s .args .program .now)) (l .i + 1) = start-next (s .args .program .now) (l .i) _ _ (c .before .loop-test .taken) (l .inv .2) (c .size-at .ensures) in
-    (omega arith, omega (arith, size-most (lineAt (s .args .program .now) (l .i)), c .size-at .ensures), e, simp length-set (l .inv .3), starts-more (l .starts) _ (l .i) _ (omega (arith, l .inv .3)) (l .inv .4) e)
+    let e : l .sum + c .size-at .result ≡ start (s .args .layout) (lines (s .args .program .now)) (l .i + 1) = start-next (s .args .layout) (s .args .program .now) (l .i) _ _ (c .before .loop-test .taken) (l .inv .2) (c .size-at .ensures) in
+    (omega arith, omega (arith, size-most (s .args .layout) (lineAt (s .args .program .now) (l .i)), c .size-at .ensures), e, simp length-set (l .inv .3), starts-more (s .args .layout) (l .starts) _ (l .i) _ (omega (arith, l .inv .3)) (l .inv .4) e)
 
 returns : tie.Need-returns Inv-loop μ-loop
-returns c = starts-all _ _ _ _ (omega arith) (c .before .loop .inv .4)
+returns c = starts-all _ _ _ _ _ (omega arith) (c .before .loop .inv .4)
 
 pub fill-starts-spec : {M : Type 1} → statement M
 fill-starts-spec =

@@ -38,7 +38,7 @@ put-line-requires : tie.Need-put-line-requires
 put-line-requires c κs =
     let n = c .before .before .before .before in
     let s = n .before .before .before in
-    omega (arith, plain-length (s .args .program .now) _ (s .args .i) (n .numbers-at .ensures) (c .before .before .if1 .taken), s .pre)
+    omega (arith, plain-length (s .args .layout) (s .args .program .now) _ (s .args .i) (n .numbers-at .ensures) (c .before .before .if1 .taken), s .pre)
 
 same-length : tie.Need-same-length
 same-length c = search needs
@@ -48,7 +48,7 @@ returns c =
     let t = c .before .before .before .before in
     let n = t .before .before .before in
     let s = n .before .before .before in
-    plain-wrote (lookedUp (s .args .starts .now)) (s .args .program .now) _ (s .args .i) _ (n .numbers-at .ensures) (t .before .before .opcode-of .ensures) (t .before .if1 .taken)
+    plain-wrote (s .args .layout) (lookedUp (s .args .starts .now)) (s .args .program .now) _ (s .args .i) _ (n .numbers-at .ensures) (t .before .before .opcode-of .ensures) (t .before .if1 .taken)
     (c .before .before .put-line .ensures _ (t .new-target .ensures))
 
 array-read-put-macro : tie.Need-array-read-put-macro
@@ -71,7 +71,7 @@ put-macro-requires c κs =
     let n = c .before .before .before .before .before in
     let s = n .before .before .before in
     let o = c .before .before .before .before in
-    omega (arith, marked-length (s .args .program .now) _ (s .args .i) (n .numbers-at .ensures) _ _ _ (o .opcode-of .ensures) (c .before .before .before .if1 .left) (c .before .coded .ensures) (c .coded2 .ensures), s .pre)
+    omega (arith, marked-length (s .args .layout) (s .args .program .now) _ (s .args .i) (n .numbers-at .ensures) _ _ _ (o .opcode-of .ensures) (c .before .before .before .if1 .left) (c .before .coded .ensures) (c .coded2 .ensures), s .pre)
 
 same-length-2 : tie.Need-same-length-2
 same-length-2 c = search needs
@@ -81,7 +81,7 @@ returns-2 c =
     let m = c .before .before .before in
     let n = m .before .before .before .before .before in
     let s = n .before .before .before in
-    marked-wrote (lookedUp (s .args .starts .now)) (s .args .program .now) _ (s .args .i) _ (n .numbers-at .ensures) (m .before .before .before .before .opcode-of .ensures) _ _ (m .before .before .before .if1 .left) (m .before .coded .ensures) (m .coded2 .ensures)
+    marked-wrote (s .args .layout) (lookedUp (s .args .starts .now)) (s .args .program .now) _ (s .args .i) _ (n .numbers-at .ensures) (m .before .before .before .before .opcode-of .ensures) _ _ (m .before .before .before .if1 .left) (m .before .coded .ensures) (m .coded2 .ensures)
     (c .before .before .put-macro .ensures)
 
 pub put-part-spec : {M : Type 1} → statement M

@@ -12,21 +12,21 @@ use Rattle.expander.proofs.writing.put_parts.Statement.{statement}
 use Rattle.expander.proofs.writing.put_parts.Tie as tie
 
 abbrev Inv-loop : tie.InvT-loop
-Inv-loop program starts out₀ count i₀ at₀ out i at = (i ≤ count) × Wrote out₀ out 0 at (joined (lookedUp starts) (take i (lines program)))
+Inv-loop layout program starts out₀ count i₀ at₀ out i at = (i ≤ count) × Wrote out₀ out 0 at (joined layout (lookedUp starts) (take i (lines program)))
 
 abbrev μ-loop : tie.MeasureT-loop
-μ-loop program starts out₀ count i₀ at₀ out i at = count - i
+μ-loop layout program starts out₀ count i₀ at₀ out i at = count - i
 
 loop-holds : tie.Need-loop-holds Inv-loop μ-loop
 loop-holds c =
     let s = c .before .before in
-    (omega arith, no-parts (s .args .program .now) (s .args .out .now) (lookedUp (s .args .starts .now)))
+    (omega arith, no-parts (s .args .layout) (s .args .program .now) (s .args .out .now) (lookedUp (s .args .starts .now)))
 
 put-part-requires : tie.Need-put-part-requires Inv-loop μ-loop
 put-part-requires c κs =
     let l = c .before .before in
     let s = l .before .before .before in
-    part-room (s .args .program .now) (s .args .out .now) (lookedUp (s .args .starts .now)) (l .loop .i) (s .pre) (c .before .loop-test .taken) (l .loop .inv .1)
+    part-room (s .args .layout) (s .args .program .now) (s .args .out .now) (lookedUp (s .args .starts .now)) (l .loop .i) (s .pre) (c .before .loop-test .taken) (l .loop .inv .1)
 
 add-i : tie.Need-add-i Inv-loop μ-loop
 add-i c = search needs
@@ -39,7 +39,7 @@ loop-again c =
     let t = c .before .before .before .before in
     let l = t .before in
     let s = l .before .before .before in
-    (omega arith, next-part (s .args .program .now) (s .args .out .now) (lookedUp (s .args .starts .now)) (l .loop .i) (t .loop-test .taken) (l .loop .inv .1) (c .before .before .put-part .ensures))
+    (omega arith, next-part (s .args .layout) (s .args .program .now) (s .args .out .now) (lookedUp (s .args .starts .now)) (l .loop .i) (t .loop-test .taken) (l .loop .inv .1) (c .before .before .put-part .ensures))
 
 same-length : tie.Need-same-length Inv-loop μ-loop
 same-length c = c .before .loop .inv .1 .long
@@ -48,7 +48,7 @@ returns : tie.Need-returns Inv-loop μ-loop
 returns c =
     let l = c .before in
     let s = l .before .before .before in
-    all-parts (s .args .program .now) (s .args .out .now) (lookedUp (s .args .starts .now)) (l .loop .i) (c .loop-test .left) (l .loop .inv .1)
+    all-parts (s .args .layout) (s .args .program .now) (s .args .out .now) (lookedUp (s .args .starts .now)) (l .loop .i) (c .loop-test .left) (l .loop .inv .1)
 
 pub put-parts-spec : {M : Type 1} → statement M
 put-parts-spec =
