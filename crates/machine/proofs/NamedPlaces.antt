@@ -1,15 +1,17 @@
--- Which operands name no place, and that the others read theirs.
+-- Which operands name no place, that the others read theirs, and what a line makes of what is read.
 -- Assumes nothing.
 use mathlib.Core.Path.{_≡_, refl}
 use Prim.Native.Nat.{ℕ, _<_, _≤_}
 use native.Mathlib.Omega.{arith}
 use lib.ListN.{getD}
 use Rattle.model.specs.declared.Mark.{Mark}
+use Rattle.model.specs.declared.Operand.{Operand}
 use Rattle.model.specs.Limits.{stateSize}
 use Rattle.model.specs.Places.{State, place, address, value}
 use Rattle.model.specs.Step.{argument}
 use Rattle.model.specs.Stored.{registers, operandOf}
 use Rattle.model.proofs.Forms.{by-form, low-form}
+use Rattle.machine.specs.Loop.{readAs}
 
 -- an empty field and a literal name no place
 module _ (n : ℕ) (s : State) (h : n < registers) where
@@ -22,8 +24,13 @@ module _ (n : ℕ) (s : State) (h : n < registers) where
   no-address = low-form n (λ o. address o s ≡ 0) h refl (λ k. refl)
 
 -- every other operand reads its place
-pub reads-place : (m : Mark) (s : State) (n : ℕ) → registers ≤ n → argument m (operandOf n) s ≡ getD s (place (operandOf n) s) 0
-unfolding argument value
-reads-place m s n h =
-    by-form n (λ o. argument m o s ≡ getD s (place o s) 0) (λ l. absurd (omega arith)) (λ g l. absurd (omega arith)) (λ g l. refl) (λ g l. refl)
+pub reads-place : (s : State) (n : ℕ) → registers ≤ n → value (operandOf n) s ≡ getD s (place (operandOf n) s) 0
+unfolding value
+reads-place s n h =
+    by-form n (λ o. value o s ≡ getD s (place o s) 0) (λ l. absurd (omega arith)) (λ g l. absurd (omega arith)) (λ g l. refl) (λ g l. refl)
     (λ g l. refl) (λ g l. refl) (λ g. refl)
+
+-- an argument is what a line of that mark makes of its operand's place and value
+pub argument-read : (m : Mark) (o : Operand) (s : State) → argument m o s ≡ readAs m (place o s) (value o s)
+unfolding argument
+argument-read m o s = refl

@@ -10,9 +10,10 @@ use Rattle.model.specs.declared.Line.{Line}
 use Rattle.model.specs.declared.Operand.{Operand}
 use Rattle.model.specs.Limits.{rowWidth}
 use Rattle.model.specs.Answers.{halted, spent, Outcome, outcome}
-use Rattle.model.specs.Places.{State, address, place}
+use Rattle.model.specs.Places.{State, address, place, value}
 use Rattle.model.specs.Stored.{lineAt}
-use Rattle.model.specs.Step.{weight, distance, argument, Row, next, after, row}
+use Rattle.model.specs.Step.{weight, distance, Row, next, after, row}
+use Rattle.machine.specs.declared.Arguments.{Arguments}
 use Rattle.machine.specs.declared.Fetched.{Fetched}
 use Rattle.machine.specs.declared.Place.{Place}
 use Rattle.machine.specs.declared.steps.Run.{Run}
@@ -25,9 +26,17 @@ cellPlace n = record { at = 32 + n; weight = weight n }
 abbrev pub placeOf : Operand → State → Place
 placeOf o s = record { at = place o s; weight = weight (address o s) }
 
--- what an argument reads, and its address's weight
-abbrev pub argumentOf : Mark → Operand → State → Fetched
-argumentOf m o s = record { value = argument m o s; weight = weight (address o s) }
+-- what an operand reads, with its place and its address's weight
+abbrev pub fetchOf : Operand → State → Fetched
+fetchOf o s = record { at = place o s; value = value o s; weight = weight (address o s) }
+
+-- what a line of that mark reads of a byte at place i: the byte itself, the mark and the place change nothing here
+abbrev pub readAs : Mark → ℕ → ℕ → ℕ
+readAs m i x = x
+
+-- the arguments of a line of that mark, of what was fetched
+abbrev pub argumentsOf : Mark → Fetched → Fetched → Arguments
+argumentsOf m x y = record { first = readAs m (x .at) (x .value); second = readAs m (y .at) (y .value) }
 
 -- the row of line k, from the old value, the result and the addresses' weights
 abbrev pub rowOf : ℕ → ℕ → ℕ → ℕ → ℕ → ℕ → Row

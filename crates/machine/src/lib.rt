@@ -11,7 +11,7 @@ ghost use Rattle.model.specs.Answers.{report, outcome};
 ghost use Rattle.model.specs.Stored.{registers, operandOf, targetOf, lineOf};
 ghost use Rattle.model.specs.Step.{weight, distance, shiftBy, negated, alu, taken, targetLine, next, after, row};
 ghost use Rattle.model.specs.Run.{runOutcome};
-ghost use Rattle.machine.specs.Loop.{cellPlace, placeOf, argumentOf, rowOf, putRow, machine, runFrom};
+ghost use Rattle.machine.specs.Loop.{cellPlace, placeOf, fetchOf, argumentsOf, rowOf, putRow, machine, runFrom};
 use model::Answer;
 use model::Mark;
 use model::Opcode;
@@ -179,24 +179,26 @@ fn place_of(code: u16, state: &[u8]) -> Place
     cell_place(256 + indirect(state, code - coding::TABLES, 256))
 }
 
-// What an argument reads, and its address's weight.
+// What an operand reads, with its place, past the state where there is none, and its address's weight.
 struct Fetched {
+    at: usize,
     value: u8,
     weight: u16,
 }
 
-// An argument, as a line of that mark reads it: the mark changes nothing here.
-fn argument(mark: Mark, code: u16, state: &[u8]) -> Fetched
-    ensures { λ r. ⌜ r ≡ argumentOf mark (operandOf code) (now (state .entry)) ⌝ }
+fn fetch(code: u16, state: &[u8]) -> Fetched
+    ensures { λ r. ⌜ r ≡ fetchOf (operandOf code) (now (state .entry)) ⌝ }
 {
     if code < coding::LITERALS {
         return Fetched {
+            at: STATE_SIZE,
             value: 0,
             weight: 0,
         };
     }
     if code < coding::REGISTERS {
         return Fetched {
+            at: STATE_SIZE,
             value: (code - coding::LITERALS) as u8,
             weight: 0,
         };
@@ -204,8 +206,25 @@ fn argument(mark: Mark, code: u16, state: &[u8]) -> Fetched
     let place = place_of(code, state);
     let at = place.at;
     Fetched {
+        at,
         value: read(state, at),
         weight: place.weight,
+    }
+}
+
+// The two arguments of a line.
+struct Arguments {
+    first: u8,
+    second: u8,
+}
+
+// What a line of that mark makes of what was fetched: the value of each, the mark and the places change nothing here.
+fn read_arguments(mark: Mark, x: Fetched, y: Fetched) -> Arguments
+    ensures { λ r. ⌜ r ≡ argumentsOf mark x y ⌝ }
+{
+    Arguments {
+        first: x.value,
+        second: y.value,
     }
 }
 
@@ -274,10 +293,12 @@ fn perform(m: u16, o: u16, d: u16, a: u16, b: u16, t: u16, counter: u16, state: 
 {
     let mark = coding::mark_of(m);
     let opcode = coding::opcode_of(o);
-    let x = argument(mark, a, state);
-    let y = argument(mark, b, state);
-    let result = alu(mark, opcode, x.value, y.value);
-    let next = advanced(is_taken(opcode, x.value, y.value), target_line(t), counter);
+    let x = fetch(a, state);
+    let y = fetch(b, state);
+    let args = read_arguments(mark, x, y);
+    let result = alu(mark, opcode, args.first, args.second);
+    let jumps = is_taken(opcode, args.first, args.second);
+    let next = advanced(jumps, target_line(t), counter);
     let r = replace(d, result, state);
     let row = row_of(counter, r.old, result, x.weight, y.weight, r.place.weight);
     Done { next, row }

@@ -8,9 +8,21 @@ use Rattle.model.specs.declared.Operand.{Operand}
 use Rattle.model.specs.declared.Operand.the-variants.{Empty, Literal, Register, Cell, PublicCell, SensitiveCell, TableCell}
 use Rattle.model.specs.declared.Kind.{Kind}
 use Rattle.model.specs.declared.Kind.the-variants.{Public, Sensitive}
-use Rattle.model.specs.Places.{State, kind, value, place, address}
+use Rattle.model.specs.Places.{State, kind, kindOf, value, place, address}
 use Rattle.model.specs.Images.{SamePublic}
-use Rattle.model.proofs.PlaceLaws.{public-register, sensitive-register, public-cell, sensitive-cell}
+use Rattle.model.proofs.PlaceLaws.{public-register, sensitive-register, public-cell, sensitive-cell, table-cell}
+
+-- the place of an operand is of the operand's kind, whatever the state holds; past the state, where one that names none has its place,
+-- a place is neither
+pub kind-place : (o : Operand) (s : State) → kind (place o s) ≡ kindOf o
+unfolding kind kindOf place
+kind-place Empty s = refl
+kind-place (Literal n) s = refl
+kind-place (Register n) s = refl
+kind-place (Cell n) s = refl
+kind-place (PublicCell r k) s = public-cell (32 + (getD s r 0 + k) % 128) (omega arith) (omega arith)
+kind-place (SensitiveCell r k) s = sensitive-cell (160 + (getD s r 0 + k) % 128) (omega arith) (omega arith)
+kind-place (TableCell r k) s = table-cell (288 + (getD s r 0 + k) % 256) (omega arith)
 
 -- a public register, as a base
 abbrev pub Base : ℕ → Type 0

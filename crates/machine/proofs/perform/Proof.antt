@@ -1,5 +1,5 @@
 -- `machine::perform` meets its contract: the parts of a step from what each call gives. Assumes nothing.
-use mathlib.Core.Path.{_≡_, ap}
+use mathlib.Core.Path.{_≡_, sym, ap, _∙_}
 use mathlib.Core.Bool.{Bool, cond}
 use mathlib.Core.List.{List}
 use Prim.Native.Nat.{ℕ, suc}
@@ -7,27 +7,34 @@ use lib.ListN.{getD, set}
 use borrow.Author.Needs.{needs}
 use Rattle.model.specs.declared.Mark.{Mark}
 use Rattle.model.specs.declared.Opcode.{Opcode}
+use Rattle.model.specs.declared.Operand.{Operand}
 use Rattle.model.specs.declared.Line.{Line}
 use Rattle.model.specs.Places.{State, place, address}
 use Rattle.model.specs.Stored.{lineOf}
 use Rattle.model.specs.Step.{weight, argument, alu, taken, targetLine, result, next, after, row}
+use Rattle.machine.specs.declared.Arguments.{Arguments}
 use Rattle.machine.specs.declared.Fetched.{Fetched}
 use Rattle.machine.specs.declared.Place.{Place}
-use Rattle.machine.specs.Loop.{placeOf, argumentOf, rowOf}
+use Rattle.machine.specs.Loop.{placeOf, fetchOf, readAs, argumentsOf, rowOf}
+use Rattle.machine.proofs.NamedPlaces.{argument-read}
 use Rattle.machine.proofs.perform.Statement.{statement}
 use Rattle.machine.proofs.perform.Tie as tie
 
+-- what a line of that mark reads of what was fetched is its argument
+read-of : (m : Mark) (o : Operand) (s : State) (x : Fetched) → x ≡ fetchOf o s → readAs m (x .at) (x .value) ≡ argument m o s
+read-of m o s x e = rw e (sym (argument-read m o s))
+
 -- what a step answers and leaves, over plain values
-performed : (l : Line) (k : ℕ) (s s′ : State) (m : Mark) (p : Opcode) (j : Bool) (x y : Fetched) (q : Place) (g n r o : ℕ) (t : List ℕ)
-    → m ≡ l .mark → p ≡ l .opcode → x ≡ argumentOf m (l .first) s → y ≡ argumentOf m (l .second) s
-    → r ≡ alu m p (x .value) (y .value) → j ≡ taken p (x .value) (y .value) → g ≡ targetLine (l .target) → n ≡ cond j g (suc k)
+performed : (l : Line) (k : ℕ) (s s′ : State) (m : Mark) (p : Opcode) (j : Bool) (x y : Fetched) (z : Arguments) (q : Place) (g n r o : ℕ) (t : List ℕ)
+    → m ≡ l .mark → p ≡ l .opcode → x ≡ fetchOf (l .first) s → y ≡ fetchOf (l .second) s → z ≡ argumentsOf m x y
+    → r ≡ alu m p (z .first) (z .second) → j ≡ taken p (z .first) (z .second) → g ≡ targetLine (l .target) → n ≡ cond j g (suc k)
     → q ≡ placeOf (l .destination) s → o ≡ getD s (q .at) 0 → s′ ≡ set s (q .at) r
     → t ≡ rowOf k o r (x .weight) (y .weight) (q .weight)
     → ((n ≡ next l k s) × (t ≡ row l k s)) × (s′ ≡ after l s)
 unfolding next row after result
-performed l k s s′ m p j x y q g n r o t em ep ex ey er ej eg en eq eo es et =
-    let a : x .value ≡ argument m (l .first) s = ap (λ (z : Fetched). z .value) ex in
-    let b : y .value ≡ argument m (l .second) s = ap (λ (z : Fetched). z .value) ey in
+performed l k s s′ m p j x y z q g n r o t em ep ex ey ez er ej eg en eq eo es et =
+    let a : z .first ≡ argument m (l .first) s = ap (λ (z : Arguments). z .first) ez ∙ read-of m (l .first) s x ex in
+    let b : z .second ≡ argument m (l .second) s = ap (λ (z : Arguments). z .second) ez ∙ read-of m (l .second) s y ey in
     let v : x .weight ≡ weight (address (l .first) s) = ap (λ (z : Fetched). z .weight) ex in
     let w : y .weight ≡ weight (address (l .second) s) = ap (λ (z : Fetched). z .weight) ey in
     let e : q .at ≡ place (l .destination) s = ap (λ (z : Place). z .at) eq in
@@ -40,11 +47,14 @@ mark-of-requires c κs = search needs
 opcode-of-requires : tie.Need-opcode-of-requires
 opcode-of-requires c κs = search needs
 
-argument-requires : tie.Need-argument-requires
-argument-requires c κs = search needs
+fetch-requires : tie.Need-fetch-requires
+fetch-requires c κs = search needs
 
-argument-requires-2 : tie.Need-argument-requires-2
-argument-requires-2 c κs = search needs
+fetch-requires-2 : tie.Need-fetch-requires-2
+fetch-requires-2 c κs = search needs
+
+read-arguments-requires : tie.Need-read-arguments-requires
+read-arguments-requires c κs = search needs
 
 alu-requires : tie.Need-alu-requires
 alu-requires c κs = search needs
@@ -69,10 +79,10 @@ same-length c = search needs
 
 returns : tie.Need-returns
 returns c =
-    let x = c .before .before .before .before .before .before .before .before .before .before .before .before .before .before .before .before .args in
+    let x = c .before .before .before .before .before .before .before .before .before .before .before .before .before .before .before .before .before .args in
     let w = c .before .before .before .replace in
-    performed (lineOf (x .m) (x .o) (x .d) (x .a) (x .b) (x .t)) (x .counter) (x .state .now) _ (c .before .before .before .before .before .before .before .before .before .before .before .before .before .before .mark-of .result) (c .before .before .before .before .before .before .before .before .before .before .before .before .before .opcode-of .result) (c .before .before .before .before .before .before .before .is-taken .result) (c .before .before .before .before .before .before .before .before .before .before .before .argument .result) (c .before .before .before .before .before .before .before .before .before .argument2 .result) (w .result .place) _ _ _ _ (c .row-of .result)
-    (c .before .before .before .before .before .before .before .before .before .before .before .before .before .before .mark-of .ensures) (c .before .before .before .before .before .before .before .before .before .before .before .before .before .opcode-of .ensures) (c .before .before .before .before .before .before .before .before .before .before .before .argument .ensures) (c .before .before .before .before .before .before .before .before .before .argument2 .ensures)
+    performed (lineOf (x .m) (x .o) (x .d) (x .a) (x .b) (x .t)) (x .counter) (x .state .now) _ (c .before .before .before .before .before .before .before .before .before .before .before .before .before .before .before .mark-of .result) (c .before .before .before .before .before .before .before .before .before .before .before .before .before .before .opcode-of .result) (c .before .before .before .before .before .before .before .is-taken .result) (c .before .before .before .before .before .before .before .before .before .before .before .before .fetch .result) (c .before .before .before .before .before .before .before .before .before .before .fetch2 .result) (c .before .before .before .before .before .before .before .before .before .read-arguments .result) (w .result .place) _ _ _ _ (c .row-of .result)
+    (c .before .before .before .before .before .before .before .before .before .before .before .before .before .before .before .mark-of .ensures) (c .before .before .before .before .before .before .before .before .before .before .before .before .before .before .opcode-of .ensures) (c .before .before .before .before .before .before .before .before .before .before .before .before .fetch .ensures) (c .before .before .before .before .before .before .before .before .before .before .fetch2 .ensures) (c .before .before .before .before .before .before .before .before .before .read-arguments .ensures)
     (c .before .before .before .before .before .before .before .before .alu .ensures) (c .before .before .before .before .before .before .before .is-taken .ensures) (c .before .before .before .before .before .before .target-line .ensures) (c .before .before .before .before .before .advanced .ensures)
     (w .ensures .0 .0) (w .ensures .0 .1) (w .ensures .1) (c .row-of .ensures)
 
@@ -82,8 +92,9 @@ perform-spec =
     (tie.spec
     mark-of-requires
     opcode-of-requires
-    argument-requires
-    argument-requires-2
+    fetch-requires
+    fetch-requires-2
+    read-arguments-requires
     alu-requires
     is-taken-requires
     target-line-requires
