@@ -9,7 +9,7 @@ ghost use lib.ListN.{getD};
 ghost use Rattle.model.specs.Answers.{report};
 ghost use Rattle.model.specs.Layouts.{neighbours};
 ghost use Rattle.model.specs.Code.{code};
-ghost use Rattle.model.specs.Places.{kind};
+ghost use Rattle.model.specs.Places.{kind, isPublic, isSensitive};
 ghost use Rattle.model.specs.Lines.{filled, fills, isLiteral};
 ghost use Rattle.model.specs.Stored.{markOf, opcodeOf, operandOf, targetOf, lineOf, lineAt};
 ghost use Rattle.model.specs.Stored.{markCode, opcodeCode, operandCode, targetCode, codes};
@@ -402,6 +402,26 @@ pub fn kind_at(i: usize) -> Kind
         return Kind::Sensitive;
     }
     Kind::Neither
+}
+
+pub fn is_public(kind: Kind) -> bool
+    ensures { λ r. ⌜ r ≡ isPublic kind ⌝ }
+{
+    match kind {
+        Kind::Neither => false,
+        Kind::Public => true,
+        Kind::Sensitive => false,
+    }
+}
+
+pub fn is_sensitive(kind: Kind) -> bool
+    ensures { λ r. ⌜ r ≡ isSensitive kind ⌝ }
+{
+    match kind {
+        Kind::Neither => false,
+        Kind::Public => false,
+        Kind::Sensitive => true,
+    }
 }
 
 // The layout of neighbouring bits, the lowest two.

@@ -2,7 +2,7 @@
 // themselves, by the ranges that decode them; no line is made.
 ghost use mathlib.Core.Path.{_≡_};
 ghost use Rattle.model.specs.Answers.{report};
-ghost use Rattle.model.specs.Places.{kindOf, isPublic, isSensitive};
+ghost use Rattle.model.specs.Places.{kindOf};
 ghost use Rattle.model.specs.Stored.{markOf, operandOf, targetOf, lineOf, lineAt, lines};
 ghost use Rattle.model.specs.Marks.{isReserved, hasSensitiveBase, isNoBit, hasMacro, isAbove, isMarked, readsSensitive};
 ghost use Rattle.model.specs.Marks.{holds10, holds11, holds12, holds13, holds14, holds15, holds16, markFault, marksOf};
@@ -18,32 +18,12 @@ use model::LINE_WIDTH;
 use model::MAX_ACCEPTED;
 use model::Opcode;
 
-// ---- what the conditions ask of a mark, a place, an operand, an opcode and a target
+// ---- what the conditions ask of a mark, an operand, an opcode and a target
 
 fn is_marked(m: u16) -> bool
     ensures { λ r. ⌜ r ≡ isMarked (markOf m) ⌝ }
 {
     m != 0
-}
-
-fn is_public(kind: Kind) -> bool
-    ensures { λ r. ⌜ r ≡ isPublic kind ⌝ }
-{
-    match kind {
-        Kind::Neither => false,
-        Kind::Public => true,
-        Kind::Sensitive => false,
-    }
-}
-
-fn is_sensitive(kind: Kind) -> bool
-    ensures { λ r. ⌜ r ≡ isSensitive kind ⌝ }
-{
-    match kind {
-        Kind::Neither => false,
-        Kind::Public => false,
-        Kind::Sensitive => true,
-    }
 }
 
 // The kind of the places that an operand names.
@@ -98,12 +78,12 @@ fn has_sensitive_base(code: u16) -> bool
         return false;
     }
     if code < SENSITIVES {
-        return is_sensitive(coding::kind_at(((code - PUBLICS) / 128) as usize));
+        return coding::is_sensitive(coding::kind_at(((code - PUBLICS) / 128) as usize));
     }
     if code < TABLES {
-        return is_sensitive(coding::kind_at(((code - SENSITIVES) / 128) as usize));
+        return coding::is_sensitive(coding::kind_at(((code - SENSITIVES) / 128) as usize));
     }
-    is_sensitive(coding::kind_at(((code - TABLES) / 256) as usize))
+    coding::is_sensitive(coding::kind_at(((code - TABLES) / 256) as usize))
 }
 
 // A literal above 1.
@@ -153,10 +133,10 @@ fn reads_sensitive(m: u16, a: u16, b: u16) -> bool
     if is_marked(m) {
         return false;
     }
-    if is_sensitive(kind_of(a)) {
+    if coding::is_sensitive(kind_of(a)) {
         return true;
     }
-    is_sensitive(kind_of(b))
+    coding::is_sensitive(kind_of(b))
 }
 
 // ---- the conditions of a line, each on the numbers of the fields that it asks about
@@ -177,9 +157,9 @@ fn holds11(m: u16, d: u16) -> bool
     ensures { λ r. ⌜ r ≡ holds11 (lineOf m 0 d 0 0 0) ⌝ }
 {
     if is_marked(m) {
-        return is_public(kind_of(d));
+        return coding::is_public(kind_of(d));
     }
-    is_sensitive(kind_of(d))
+    coding::is_sensitive(kind_of(d))
 }
 
 fn holds12(m: u16, d: u16, a: u16, b: u16) -> bool
@@ -201,10 +181,10 @@ fn holds13(m: u16, a: u16, b: u16) -> bool
     ensures { λ r. ⌜ r ≡ holds13 (lineOf m 0 0 a b 0) ⌝ }
 {
     if is_marked(m) {
-        if is_public(kind_of(a)) {
+        if coding::is_public(kind_of(a)) {
             return true;
         }
-        return is_public(kind_of(b));
+        return coding::is_public(kind_of(b));
     }
     false
 }
