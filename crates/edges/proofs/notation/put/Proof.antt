@@ -1,9 +1,9 @@
--- `edges::put` is safe and ends: each item shortens the rest of the list, and what is lent keeps its length. Assumes nothing.
+-- `edges::notation::put` is safe and ends: each item shortens the rest of the list, and what is lent keeps its length. Assumes nothing.
 use mathlib.Core.Path.{_≡_}
 use lib.ListN.{length}
 use borrow.Author.Needs.{needs}
-use Rattle.edges.proofs.put.Statement.{statement}
-use Rattle.edges.proofs.put.Tie as tie
+use Rattle.edges.proofs.notation.put.Statement.{statement}
+use Rattle.edges.proofs.notation.put.Tie as tie
 
 abbrev Inv-loop : tie.InvT-loop
 Inv-loop list bytes₀ numbers₀ rest₀ bytes numbers rest = (length bytes ≡ length bytes₀) × (length numbers ≡ length numbers₀)

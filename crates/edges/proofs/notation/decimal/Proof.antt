@@ -1,9 +1,9 @@
--- `edges::decimal` meets its contract: no digit makes the number longer than six, and the bytes to read get fewer. Assumes nothing.
+-- `edges::notation::decimal` meets its contract: no digit makes the number longer than six, and the bytes to read get fewer. Assumes nothing.
 use Prim.Native.Nat.{_≤_, _-_}
 use lib.ListN.{length}
 use borrow.Author.Needs.{needs}
-use Rattle.edges.proofs.decimal.Statement.{statement}
-use Rattle.edges.proofs.decimal.Tie as tie
+use Rattle.edges.proofs.notation.decimal.Statement.{statement}
+use Rattle.edges.proofs.notation.decimal.Tie as tie
 
 abbrev Inv-loop : tie.InvT-loop
 Inv-loop bytes n₀ i₀ n i = (n ≤ 999999) × (i ≤ length bytes)

@@ -1,8 +1,8 @@
--- `edges::holds_from` is safe and ends: the places to see get fewer. Assumes nothing.
+-- `edges::notation::holds_from` is safe and ends: the places to see get fewer. Assumes nothing.
 use Prim.Native.Nat.{_-_}
 use borrow.Author.Needs.{needs}
-use Rattle.edges.proofs.holds_from.Statement.{statement}
-use Rattle.edges.proofs.holds_from.Tie as tie
+use Rattle.edges.proofs.notation.holds_from.Statement.{statement}
+use Rattle.edges.proofs.notation.holds_from.Tie as tie
 
 abbrev Inv-loop : tie.InvT-loop
 Inv-loop item from end bytes numbers i₀ i = Unit

@@ -1,8 +1,8 @@
--- `edges::part` is safe and ends: the marks to pass get fewer. Assumes nothing.
+-- `edges::notation::part` is safe and ends: the marks to pass get fewer. Assumes nothing.
 use Prim.Native.Nat.{_≤_, _-_}
 use borrow.Author.Needs.{needs}
-use Rattle.edges.proofs.part.Statement.{statement}
-use Rattle.edges.proofs.part.Tie as tie
+use Rattle.edges.proofs.notation.part.Statement.{statement}
+use Rattle.edges.proofs.notation.part.Tie as tie
 
 abbrev Inv-loop : tie.InvT-loop
 Inv-loop bytes n mark rest₀ i₀ rest i = i ≤ n

@@ -1,8 +1,8 @@
--- `edges::holds` is safe and ends: each item makes the rest of the list shorter. Assumes nothing.
+-- `edges::notation::holds` is safe and ends: each item makes the rest of the list shorter. Assumes nothing.
 use lib.ListN.{length}
 use borrow.Author.Needs.{needs}
-use Rattle.edges.proofs.holds.Statement.{statement}
-use Rattle.edges.proofs.holds.Tie as tie
+use Rattle.edges.proofs.notation.holds.Statement.{statement}
+use Rattle.edges.proofs.notation.holds.Tie as tie
 
 abbrev Inv-loop : tie.InvT-loop
 Inv-loop list bytes numbers rest₀ rest = Unit
