@@ -4,7 +4,7 @@
 
 use crate::answer::{Answer, Dualrail};
 use crate::generate as make;
-use crate::paper::{self, Kind, Line, Paper, SIX, STATE};
+use crate::paper::{self, Kind, Line, Paper, LONGEST, MOST_BYTES, MOST_CHECKED, MOST_LINES, ROW, SIX, STATE};
 use crate::random::Random;
 use std::panic::{catch_unwind, AssertUnwindSafe};
 
@@ -356,7 +356,7 @@ impl Comparison<'_> {
             make::damage_numbers(&mut self.rng, &mut program);
         }
         if self.rng.one_in(3) {
-            let more = self.rng.below(6);
+            let more = self.rng.below(SIX);
             program.extend(self.some_numbers(more));
         }
         self.check(&program)?;
@@ -375,10 +375,10 @@ impl Comparison<'_> {
         let budget = self.budget();
         let start = self.start(lines.len());
         let room = match self.rng.below(8) {
-            0 => self.rng.below(SIX * budget + 1),
-            1 => (SIX * budget).saturating_sub(1),
-            2 => SIX * budget + self.rng.below(20),
-            _ => SIX * budget,
+            0 => self.rng.below(ROW * budget + 1),
+            1 => (ROW * budget).saturating_sub(1),
+            2 => ROW * budget + self.rng.below(20),
+            _ => ROW * budget,
         };
         self.run(&program, (start, budget), &state, room)?;
         Ok(())
@@ -395,7 +395,7 @@ impl Comparison<'_> {
 
     fn start(&mut self, count: usize) -> usize {
         match self.rng.below(8) {
-            0 => self.rng.pick(&[count, count + 1, 16_384, 65_535]),
+            0 => self.rng.pick(&[count, count + 1, MOST_LINES, 65_535]),
             1 => self.rng.below(65_536),
             2..=4 => 0,
             _ => self.rng.below(count + 1),
@@ -427,38 +427,42 @@ impl Comparison<'_> {
         let near = self.rng.pick(&[0, 1, 2, 2, 2]);
         match which % 5 {
             0 => {
-                let lines = make::long_program(&mut self.rng, 16_383 + near, false);
+                let lines = make::long_program(&mut self.rng, MOST_LINES - 1 + near, false);
                 let mut text = make::text(&lines);
                 if self.rng.one_in(4) {
                     make::damage_text(&mut self.rng, &mut text);
                 }
-                let room = SIX * self.rng.pick(&[16_383, 16_384, 16_384, 16_384, 16_385, 16_400]);
+                let most = MOST_LINES;
+                let room = SIX * self.rng.pick(&[most - 1, most, most, most, most + 1, most + 16]);
                 self.read(&text, room)?;
             }
             1 => {
-                let mut program = make::stored(&make::long_program(&mut self.rng, 16_383 + near, false));
+                let mut program =
+                    make::stored(&make::long_program(&mut self.rng, MOST_LINES - 1 + near, false));
                 if self.rng.one_in(4) {
                     make::damage_numbers(&mut self.rng, &mut program);
                 }
                 let state = make::any_state(&mut self.rng);
                 match self.rng.below(4) {
-                    0 => drop(self.write(&program, 560_000)?),
+                    0 => drop(self.write(&program, MOST_BYTES)?),
                     1 => drop(self.check(&program)?),
-                    2 => drop(self.expand(&program, SIX * 16_384)?),
-                    _ => drop(self.run(&program, (0, 300), &state, 1_800)?),
+                    2 => drop(self.expand(&program, SIX * MOST_LINES)?),
+                    _ => drop(self.run(&program, (0, 300), &state, ROW * 300)?),
                 }
             }
             2 => {
-                let mut program = make::stored(&make::long_program(&mut self.rng, 1_023 + near, true));
+                let mut program =
+                    make::stored(&make::long_program(&mut self.rng, MOST_CHECKED - 1 + near, true));
                 if self.rng.one_in(4) {
                     make::damage_numbers(&mut self.rng, &mut program);
                 }
                 self.check(&program)?;
-                let room = SIX * self.rng.pick(&[13_312, 13_312, 1_024, 6_000, 16_384]);
+                let enough = LONGEST * MOST_CHECKED;
+                let room = SIX * self.rng.pick(&[enough, enough, MOST_CHECKED, 6_000, MOST_LINES]);
                 self.expand(&program, room)?;
             }
             3 => {
-                let count = self.rng.pick(&[1_024, 700, 300]);
+                let count = self.rng.pick(&[MOST_CHECKED, 700, 300]);
                 let lines = make::long_program(&mut self.rng, count, true);
                 self.whole_way(&lines)?;
             }
@@ -468,7 +472,7 @@ impl Comparison<'_> {
                 lines.push(make::jump(0));
                 let state = make::any_state(&mut self.rng);
                 let budget = self.rng.pick(&[65_535, 65_535, 30_000]);
-                self.run(&make::stored(&lines), (0, budget), &state, SIX * budget)?;
+                self.run(&make::stored(&lines), (0, budget), &state, ROW * budget)?;
             }
         }
         Ok(())
@@ -520,20 +524,20 @@ impl Comparison<'_> {
             1..=4 => 0,
             _ => self.rng.below(600),
         };
-        let (answer_one, _, trace_one) = self.run(&expansion, (start, budget), &image_one, SIX * budget)?;
-        let (answer_two, _, trace_two) = self.run(&expansion, (start, budget), &image_two, SIX * budget)?;
+        let (answer_one, _, trace_one) = self.run(&expansion, (start, budget), &image_one, ROW * budget)?;
+        let (answer_two, _, trace_two) = self.run(&expansion, (start, budget), &image_two, ROW * budget)?;
         must(answer_one == answer_two, "the runs end differently")?;
         let steps = steps(answer_one);
-        must(trace_one[..SIX * steps] == trace_two[..SIX * steps], "the traces differ")?;
+        must(trace_one[..ROW * steps] == trace_two[..ROW * steps], "the traces differ")?;
 
         // The expansion follows the source: as many steps as the parts of the lines done have.
         let budget = self.rng.below(200);
-        let (answer, source, trace) = self.run(&program, (line, budget), &one, SIX * budget)?;
+        let (answer, source, trace) = self.run(&program, (line, budget), &one, ROW * budget)?;
         let done = self::steps(answer);
         let part = |row: &[u16]| starts[row[0] as usize + 1] - starts[row[0] as usize];
-        let length: usize = trace[..SIX * done].chunks_exact(SIX).map(part).sum();
+        let length: usize = trace[..ROW * done].chunks_exact(ROW).map(part).sum();
         let stands = starts[counter(answer).min(lines.len())];
-        let (answer, mut state, _) = self.run(&expansion, (start, length), &image_one, SIX * length)?;
+        let (answer, mut state, _) = self.run(&expansion, (start, length), &image_one, ROW * length)?;
         must(self::steps(answer) == length && counter(answer) == stands, "the expansion stands elsewhere")?;
         let (_, decoded) = self.image(Entry::FromImage, &state, STATE)?;
         must(decoded == source, "the expansion's state does not decode to the source's")?;

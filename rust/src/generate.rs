@@ -1,7 +1,8 @@
 //! Random inputs: programs that are right or nearly so, texts, states.
 
 use crate::paper::{
-    code, kind_of_place, table_page, Kind, Line, Opcode, Operand, Operand::*, OPCODES, STATE,
+    code, kind_of_place, table_page, Kind, Line, Opcode, Operand, Operand::*, LONGEST, MOST_LINES, OPCODES,
+    STATE,
 };
 use crate::random::Random;
 
@@ -95,7 +96,7 @@ pub fn accepted_line(rng: &mut Random, count: usize) -> Line {
         };
         line(rng, true, opcode, sensitive_place, argument, count)
     } else {
-        let opcode = OPCODES[rng.below(13)].0;
+        let opcode = OPCODES[rng.below(OPCODES.len())].0;
         let argument = |rng: &mut Random| match rng.below(3) {
             0 => literal(rng),
             _ => public_place(rng),
@@ -107,8 +108,8 @@ pub fn accepted_line(rng: &mut Random, count: usize) -> Line {
 /// Any correct line.
 pub fn any_line(rng: &mut Random) -> Line {
     let marked = rng.one_in(2);
-    let opcode = OPCODES[rng.below(13)].0;
-    line(rng, marked, opcode, any_place, any_argument, 16_384)
+    let opcode = OPCODES[rng.below(OPCODES.len())].0;
+    line(rng, marked, opcode, any_place, any_argument, MOST_LINES)
 }
 
 /// An unmarked jump.
@@ -129,7 +130,7 @@ pub fn part_length(line: &Line) -> usize {
         _ if !line.marked => 1,
         Opcode::Not => 5,
         Opcode::Mov => 4,
-        _ => 13,
+        _ => LONGEST,
     }
 }
 
@@ -176,7 +177,7 @@ fn nearly_accepted_line(rng: &mut Random, count: usize) -> Line {
         6 => {
             let opcode = OPCODES[rng.pick(&[1, 11, 12])].0;
             line = self::line(rng, false, opcode, public_place, public_place, count);
-            line.target = Some(edgy(rng, count + 1, 16_384.max(count + 1)) as u16);
+            line.target = Some(edgy(rng, count + 1, MOST_LINES.max(count + 1)) as u16);
         }
         _ => line = any_line(rng),
     }
@@ -251,9 +252,11 @@ pub fn text(lines: &[Line]) -> Vec<u8> {
 
 /// Changes some numbers of a stored program.
 pub fn damage_numbers(rng: &mut Random, program: &mut [u16]) {
+    // A target's number is one more than the line: the last one, and those beside it.
+    let [below, last, past] = [0, 1, 2].map(|more| MOST_LINES as u16 + more);
     // The last number of each form, those beside it, and the ends of everything.
     let edges = [
-        0, 1, 2, 3, 12, 13, 256, 257, 288, 289, 800, 801, 4_896, 4_897, 8_992, 8_993, 16_384, 16_385, 16_386,
+        0, 1, 2, 3, 12, 13, 256, 257, 288, 289, 800, 801, 4_896, 4_897, 8_992, 8_993, below, last, past,
         17_184, 17_185, 32_767, 65_535,
     ];
     if program.is_empty() {
@@ -294,6 +297,7 @@ pub fn damage_text(rng: &mut Random, text: &mut Vec<u8>) {
         "!4+1",
         "!r4+",
         "%r+1",
+        // One more than MOST_LINES, and the number itself.
         "16385",
         "16384",
         "016",

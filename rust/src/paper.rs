@@ -8,9 +8,13 @@ use crate::answer::{Answer, Dualrail};
 pub const STATE: usize = 32 + 512;
 /// Numbers of a stored line, and of a trace row.
 pub const SIX: usize = 6;
-/// Most lines of any program, and of one for the mark check.
+pub const ROW: usize = 6;
+/// Most lines of any program, of one for the mark check, and of a line's part of an expansion.
 pub const MOST_LINES: usize = 16_384;
 pub const MOST_CHECKED: usize = 1_024;
+pub const LONGEST: usize = 13;
+/// Most bytes of a program's text: the longest line has 33 and its newline.
+pub const MOST_BYTES: usize = 34 * MOST_LINES;
 
 // ---------------------------------------------------------------- lines
 
@@ -222,7 +226,11 @@ impl Line {
             destination: operand_field(filled[0], operand_of(destination), true)?,
             first: operand_field(filled[1], operand_of(first), false)?,
             second: operand_field(filled[2], operand_of(second), false)?,
-            target: if filled[3] { Some(number(target, 16_384).ok_or(6u16)? as u16) } else { None },
+            target: if filled[3] {
+                Some(number(target, MOST_LINES as u32).ok_or(6u16)? as u16)
+            } else {
+                None
+            },
         })
     }
 
@@ -254,7 +262,7 @@ impl Line {
         if filled != opcode.fills() {
             return Err(5);
         }
-        if target > 16_385 {
+        if target as usize > MOST_LINES + 1 {
             return Err(6);
         }
         Ok(Line {
@@ -595,7 +603,7 @@ fn value(operand: Option<Operand>, state: &[u8]) -> u8 {
 }
 
 /// One step: the next counter and the trace row.
-fn step(line: &Line, counter: u16, state: &mut [u8]) -> (u16, [u16; SIX]) {
+fn step(line: &Line, counter: u16, state: &mut [u8]) -> (u16, [u16; ROW]) {
     let a = value(line.first, state);
     let b = value(line.second, state);
     let mut row = [
@@ -638,14 +646,14 @@ fn run(lines: &[Line], start: u16, budget: u16, state: &mut [u8], trace: &mut [u
     if state.len() != STATE {
         return refused(18, 0);
     }
-    if trace.len() < SIX * budget as usize {
+    if trace.len() < ROW * budget as usize {
         return refused(20, 0);
     }
     let mut counter = start;
     let mut steps = 0;
     while steps < budget && (counter as usize) < lines.len() {
         let (next, row) = step(&lines[counter as usize], counter, state);
-        trace[SIX * steps as usize..][..SIX].copy_from_slice(&row);
+        trace[ROW * steps as usize..][..ROW].copy_from_slice(&row);
         counter = next;
         steps += 1;
     }

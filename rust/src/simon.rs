@@ -2,7 +2,7 @@
 //! cipher on 16-bit words to compare with.
 
 use crate::answer::{Answer, Dualrail};
-use crate::paper::{SIX, STATE};
+use crate::paper::{LONGEST, ROW, SIX, STATE};
 
 /// The program, bitsliced by hand.
 pub const TEXT: &[u8] = include_bytes!("../../examples/simon32.asm");
@@ -58,7 +58,7 @@ pub fn programs(on: &dyn Dualrail) -> (Vec<u16>, Vec<u16>) {
     let mut source = vec![0; SIX * 409];
     let Answer::Counted(count) = on.read(TEXT, &mut source) else { panic!("the example is not read") };
     source.truncate(SIX * count as usize);
-    let mut expansion = vec![0; SIX * 13 * count as usize];
+    let mut expansion = vec![0; SIX * LONGEST * count as usize];
     let Answer::Counted(count) = on.expand(&source, &mut expansion) else { panic!("it is not accepted") };
     expansion.truncate(SIX * count as usize);
     (source, expansion)
@@ -73,11 +73,11 @@ pub fn run_to_end(on: &dyn Dualrail, program: &[u16], state: &mut [u8]) -> Vec<u
     let mut start = 0;
     loop {
         let done = trace.len();
-        trace.resize(done + SIX * BUDGET as usize, 0);
+        trace.resize(done + ROW * BUDGET as usize, 0);
         let answer = on.run(program, start, BUDGET, state, &mut trace[done..]);
         match answer {
             Answer::Halted { steps, .. } => {
-                trace.truncate(done + SIX * steps as usize);
+                trace.truncate(done + ROW * steps as usize);
                 return trace;
             }
             Answer::Spent { counter, .. } => start = counter,

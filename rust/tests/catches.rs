@@ -2,7 +2,9 @@
 //! with one fault each.
 
 use dualrail::compare::compare;
-use dualrail::paper::{starts, stored_program, Line, Opcode, Operand, Paper, MOST_LINES, SIX};
+use dualrail::paper::{
+    starts, stored_program, Line, Opcode, Operand, Paper, MOST_CHECKED, MOST_LINES, ROW, SIX,
+};
 use dualrail::Answer::{self, *};
 use dualrail::Dualrail;
 
@@ -245,7 +247,7 @@ fn variants() -> Vec<Variant> {
         Variant {
             fault: "9 from 1,024 lines on",
             check: |program| match Paper.check(program) {
-                Counted(1_024) => refused(9),
+                Counted(count) if count as usize == MOST_CHECKED => refused(9),
                 answer => answer,
             },
             ..RIGHT
@@ -493,7 +495,7 @@ fn variants() -> Vec<Variant> {
             run: |program, start, budget, state, trace| {
                 let answer = Paper.run(program, start, budget, state, trace);
                 if let Halted { steps, .. } = answer {
-                    trace[SIX * steps as usize..].iter_mut().take(SIX).for_each(|number| *number = 0);
+                    trace[ROW * steps as usize..].iter_mut().take(ROW).for_each(|number| *number = 0);
                 }
                 answer
             },

@@ -1,6 +1,6 @@
 //! The edges and examples that the paper prints.
 
-use dualrail::paper::{Paper, STATE};
+use dualrail::paper::{Paper, ROW, SIX, STATE};
 use dualrail::plain::Plain;
 use dualrail::Answer::{self, *};
 use dualrail::{Dualrail, Library};
@@ -16,17 +16,17 @@ fn refused(number: u16, line: u32) -> Answer {
 }
 
 fn stored(on: &dyn Dualrail, text: &str) -> Vec<u16> {
-    let mut store = vec![0; 6 * 2_000];
+    let mut store = vec![0; SIX * 2_000];
     let Counted(count) = on.read(text.as_bytes(), &mut store) else { panic!("{text}") };
-    store.truncate(6 * count as usize);
+    store.truncate(SIX * count as usize);
     store
 }
 
 /// The answer of reading and, where it succeeds, of the mark check.
 fn judged(on: &dyn Dualrail, text: &str) -> Answer {
-    let mut store = vec![0; 6 * 2_000];
+    let mut store = vec![0; SIX * 2_000];
     match on.read(text.as_bytes(), &mut store) {
-        Counted(count) => on.check(&store[..6 * count as usize]),
+        Counted(count) => on.check(&store[..SIX * count as usize]),
         answer => answer,
     }
 }
@@ -34,7 +34,7 @@ fn judged(on: &dyn Dualrail, text: &str) -> Answer {
 /// The value of r4 after one step from a state of zeros.
 fn one_step(on: &dyn Dualrail, line: &str) -> u8 {
     let mut state = [0; STATE];
-    on.run(&stored(on, line), 0, 1, &mut state, &mut [0; 6]);
+    on.run(&stored(on, line), 0, 1, &mut state, &mut [0; ROW]);
     state[4]
 }
 
@@ -95,13 +95,13 @@ fn machine() {
         let nop = stored(on, "u,nop,,,,\n");
         assert_eq!(on.run(&[], 0, 0, &mut state, &mut []), Halted { counter: 0, steps: 0 });
         assert_eq!(on.run(&nop, 0, 0, &mut state, &mut []), Spent { counter: 0, steps: 0 });
-        assert_eq!(on.run(&nop, 0, 1, &mut state, &mut [0; 6]), Halted { counter: 1, steps: 1 });
-        assert_eq!(on.run(&nop, 0, 1, &mut state, &mut [0; 5]), refused(20, 0));
+        assert_eq!(on.run(&nop, 0, 1, &mut state, &mut [0; ROW]), Halted { counter: 1, steps: 1 });
+        assert_eq!(on.run(&nop, 0, 1, &mut state, &mut [0; ROW - 1]), refused(20, 0));
         // With r4 = 1, %r4+127 is cell 128; from 1 to 2 changes 2 bits; 261 has 3 ones.
         state[4] = 1;
         state[32 + 128] = 1;
         state[32 + 261] = 7;
-        let mut trace = [0; 6];
+        let mut trace = [0; ROW];
         on.run(&stored(on, "u,add,%r4+127,@261,#251,\n"), 0, 1, &mut state, &mut trace);
         assert_eq!((state[32 + 128], trace), (2, [0, 1, 2, 3, 0, 1]));
     });
@@ -111,7 +111,7 @@ fn machine() {
 fn the_two_programs() {
     each(|on| {
         let program = stored(on, "s,not,r16,r17,,\n");
-        let mut expansion = [0; 30];
+        let mut expansion = [0; SIX * 5];
         assert_eq!(on.expand(&program, &mut expansion), Counted(5));
         let mut text = [0; 100];
         let Counted(size) = on.write(&expansion, &mut text) else { panic!() };
@@ -120,7 +120,7 @@ fn the_two_programs() {
         assert_eq!(&text[..size as usize], printed);
         let mut image = [0; STATE];
         assert_eq!(on.to_image(&[0; STATE], &mut image), Counted(544));
-        let mut trace = [0; 6_000];
+        let mut trace = [0; ROW * 1_000];
         assert_eq!(on.run(&expansion, 0, 1_000, &mut image, &mut trace), Halted { counter: 5, steps: 5 });
         let rows = [
             [0, 0, 0, 0, 0, 0],
@@ -129,7 +129,7 @@ fn the_two_programs() {
             [3, 0, 1, 0, 0, 0],
             [4, 1, 1, 0, 0, 0],
         ];
-        assert_eq!(trace[..30], rows.concat());
+        assert_eq!(trace[..ROW * 5], rows.concat());
     });
 }
 

@@ -1,6 +1,6 @@
 //! The example cipher: the published ciphertext, and equal traces.
 
-use dualrail::paper::{Paper, SIX, STATE};
+use dualrail::paper::{Paper, ROW, SIX, STATE};
 use dualrail::random::Random;
 use dualrail::simon::*;
 use dualrail::{Answer, Dualrail, Library};
@@ -40,9 +40,9 @@ fn published_ciphertext() {
             "{} bytes, {} lines, {} steps; expansion {} lines, {} steps",
             TEXT.len(),
             programs.0.len() / SIX,
-            source_trace.len() / SIX,
+            source_trace.len() / ROW,
             programs.1.len() / SIX,
-            trace.len() / SIX
+            trace.len() / ROW
         );
     }
 }

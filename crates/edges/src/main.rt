@@ -5,6 +5,7 @@ ghost use Prim.Native.Nat.{_≤_};
 ghost use lib.ListN.{length};
 use crate::notation::BEFORE;
 use crate::notation::CALL;
+use crate::notation::LARGEST;
 use crate::notation::NAME;
 use crate::notation::PROGRAM;
 use crate::notation::decimal;
@@ -20,6 +21,8 @@ use crate::notation::size;
 use crate::notation::tail;
 use model::Answer;
 use model::LINE_WIDTH;
+use model::MAX_LINES;
+use model::ROW_WIDTH;
 use model::STATE_SIZE;
 
 mod notation;
@@ -28,13 +31,13 @@ mod notation;
 const STATE_ROOM: usize = STATE_SIZE + 1;
 
 // A program with a line too many.
-const PROGRAM_ROOM: usize = 98310;
+const PROGRAM_ROOM: usize = LINE_WIDTH * (MAX_LINES + 1);
 
-// The text of 16,384 lines `u,nop,,,,`, with a byte too many.
-const BYTE_ROOM: usize = 163841;
+// The text of the longest program of lines `u,nop,,,,`, ten bytes each with the newline, and a byte too many.
+const BYTE_ROOM: usize = 10 * MAX_LINES + 1;
 
-// The trace of 65,535 steps.
-const NUMBER_ROOM: usize = 393210;
+// The trace of the largest budget.
+const NUMBER_ROOM: usize = ROW_WIDTH * LARGEST;
 
 // ---- what an answer counts
 
@@ -89,8 +92,8 @@ fn expands(line: &[u8], program: &[u16], bytes: &mut [u8], store: &mut [u16]) ->
 }
 
 fn runs(line: &[u8], program: &[u16], state: &mut [u8], trace: &mut [u16]) -> bool {
-    let start = size(line, 0, 65535) as u16;
-    let budget = size(line, 1, 65535) as u16;
+    let start = size(line, 0, LARGEST) as u16;
+    let budget = size(line, 1, LARGEST) as u16;
     let bytes = size(line, 2, state.len());
     let room = size(line, 3, trace.len());
     let answer = machine::run(

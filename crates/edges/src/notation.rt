@@ -21,6 +21,9 @@ const AFTER: usize = 6;
 
 const TEXT: usize = 7;
 
+// The largest number of 16 bits, as stored numbers, starts and budgets are.
+pub const LARGEST: usize = 65535;
+
 // ---- fields and numbers
 
 // What stands before the first mark, or all where there is none.
@@ -123,7 +126,7 @@ fn place(name: &[u8]) -> usize
 }
 
 fn value(item: &[u8]) -> u16 {
-    least(decimal(tail(item, b'=')), 65535) as u16
+    least(decimal(tail(item, b'=')), LARGEST) as u16
 }
 
 // A digit first means a number, any other byte a byte.

@@ -1,7 +1,7 @@
 //! Times the library against plain C (bench/plain.c, cc -O2) in one process, on
 //! the same inputs, and prints the ratios of the medians.
 
-use dualrail::paper::{SIX, STATE};
+use dualrail::paper::{MOST_BYTES, MOST_LINES, ROW, SIX, STATE};
 use dualrail::plain::Plain;
 use dualrail::simon;
 use dualrail::{Answer, Dualrail, Library};
@@ -27,7 +27,7 @@ impl Memory {
     fn new() -> Memory {
         let mut state = vec![0; STATE];
         Library.to_image(&simon::load(simon::KEY, simon::PLAINTEXT), &mut state);
-        Memory { bytes: vec![0; 560_000], numbers: vec![0; 400_000], state }
+        Memory { bytes: vec![0; MOST_BYTES], numbers: vec![0; ROW * 65_535], state }
     }
 }
 
@@ -73,7 +73,7 @@ fn measure(name: &str, goal: f64, job: Job) -> f64 {
 }
 
 fn stored(text: &str) -> Vec<u16> {
-    let mut store = vec![0; SIX * 16_384];
+    let mut store = vec![0; SIX * MOST_LINES];
     let Answer::Counted(count) = Library.read(text.as_bytes(), &mut store) else { panic!("not read") };
     store.truncate(SIX * count as usize);
     store

@@ -1,7 +1,7 @@
 //! Prints the data of docs/traces.svg: the bits changed at each step of the
 //! example cipher, for two keys, run as it is and expanded.
 
-use dualrail::paper::{SIX, STATE};
+use dualrail::paper::{ROW, STATE};
 use dualrail::simon::{load, programs, run_to_end, KEY, PLAINTEXT};
 use dualrail::{Dualrail, Library};
 
@@ -10,7 +10,7 @@ const ROWS: usize = 240;
 
 /// The changed bits, the third number of each row.
 fn distances(program: &[u16], mut state: Vec<u8>) -> Vec<u16> {
-    run_to_end(&Library, program, &mut state).chunks_exact(SIX).map(|row| row[2]).collect()
+    run_to_end(&Library, program, &mut state).chunks_exact(ROW).map(|row| row[2]).collect()
 }
 
 fn image(bits: Vec<u8>) -> Vec<u8> {
