@@ -1,13 +1,11 @@
 // The first of the two programs of document 01: reads program text from standard input, and prints its expansion or the refusal. What
 // it prints is the contract of programs::print_expansion; here it is only read and written.
 ghost use mathlib.Core.Path.{_≡_};
-ghost use Prim.Native.Nat.{_+_, _*_};
+ghost use Prim.Native.Nat.{_+_};
 ghost use lib.ListN.{length};
-ghost use Rattle.model.specs.Limits.{longest, maxAccepted};
 ghost use Rattle.model.specs.Programs.{inputSize};
+ghost use Rattle.programs.specs.Printing.{expansionBytes};
 use model::Answer;
-use model::LONGEST;
-use model::MAX_ACCEPTED;
 
 // Room for one byte more than the programs read, so that a longer input is told.
 const INPUT_ROOM: usize = programs::INPUT_SIZE + 1;
@@ -18,11 +16,11 @@ fn input_room() -> [u8; INPUT_ROOM]
     [0u8; INPUT_ROOM]
 }
 
-// Room for the text of every expansion: each line expands to 13 lines at most, of 34 bytes each.
-const OUTPUT_ROOM: usize = 34 * LONGEST * MAX_ACCEPTED;
+// Room for the text of every expansion.
+const OUTPUT_ROOM: usize = programs::EXPANSION_BYTES;
 
 fn output_room() -> [u8; OUTPUT_ROOM]
-    ensures { λ r. ⌜ length r ≡ 34 * longest * maxAccepted ⌝ }
+    ensures { λ r. ⌜ length r ≡ expansionBytes ⌝ }
 {
     [0u8; OUTPUT_ROOM]
 }

@@ -46,7 +46,7 @@ starts-more L s p i v h b e t g = go (ℕ-discrete t (i + 1))
 
 pub starts-found : (L : Layout) (s : List ℕ) (p : List Line) (n : ℕ) → n ≤ maxAccepted → Starts L s p n → (k : ℕ) → k ≤ n → lookedUp s k ≡ start L p k
 unfolding Starts
-starts-found L s p n h b k g = rw (lt-ltb k 1025 (omega arith)) (b k g)
+starts-found L s p n h b k g = rw (lt-ltb k (maxAccepted + 1) (omega arith)) (b k g)
 
 pub starts-all : (L : Layout) (s : List ℕ) (p : List Line) (i n : ℕ) → i ≡ n → Starts L s p i → Starts L s p n
 starts-all L s p i n e b = rw (← e) b

@@ -26,6 +26,7 @@ use Rattle.model.proofs.ExpansionLaws.{expansion-most, expansion-correct}
 use Rattle.model.proofs.Runs.{run-zero, stopped, step-run}
 use Rattle.model.proofs.CheckAnswers.{accepted-source}
 use Rattle.model.specs.Text.{fitted}
+use Rattle.programs.specs.Printing.{expansionBytes, rowBytes, traceBytes}
 use Rattle.programs.specs.Loading.{readInput}
 use Rattle.programs.proofs.LeftLaws.{all-fits}
 use Rattle.programs.proofs.LineTexts.{listed, cons-text}
@@ -70,11 +71,10 @@ unfolding flatMap
 spelled-most [] h = omega arith
 spelled-most (l ∷ ls) h = omega (arith, length-append (spellLine l) (flatMap spellLine ls), line-34 l (h .0), spelled-most ls (h .1))
 
--- 13 lines for each of 1,024, of 34 bytes each
-pub expansion-most-bytes : (input : List ℕ) → length (expandPrints input) ≤ 452608
+pub expansion-most-bytes : (input : List ℕ) → length (expandPrints input) ≤ expansionBytes
 expansion-most-bytes input =
     rw (expand-prints input)
-    (printed-most (λ p. flatMap spellLine (expand neighbours p)) 452608 (omega arith)
+    (printed-most (λ p. flatMap spellLine (expand neighbours p)) expansionBytes (omega arith)
     (λ p A. omega (arith, spelled-most (expand neighbours p) (expansion-correct neighbours near p A), expansion-most neighbours near p A)) input)
 
 -- ---- the trace
@@ -87,11 +87,11 @@ rows-few p (suc n) k s = by (λ k s. rows-few p n k s) (getElem? p k) refl
     by ih none e = rw (stopped p k s e (suc n)) (omega arith)
     by ih (some l) e = rw (step-run p k s l e n) (omega (arith, ih (next l k s) (after l s)))
 
-row-most : (r : Row) → length r ≡ rowWidth → length (numbersText r) ≤ 36
+row-most : (r : Row) → length r ≡ rowWidth → length (numbersText r) ≤ rowBytes
 row-most [] h = absurd (omega arith)
 row-most (n ∷ ns) h = omega (arith, numbers-most n ns)
 
-rows-most : (rs : List Row) → Sixes rs → length (flatMap numbersText rs) ≤ 36 * length rs
+rows-most : (rs : List Row) → Sixes rs → length (flatMap numbersText rs) ≤ rowBytes * length rs
 unfolding flatMap
 rows-most [] h = omega arith
 rows-most (r ∷ rs) h = omega (arith, length-append (numbersText r) (flatMap numbersText rs), row-most r (h .0), rows-most rs (h .1))
@@ -103,7 +103,7 @@ ending-most p x = rw (ending-is p x) (by (ltb (x .at) (length p)))
     by true = omega (arith, numbers-most (length (x .rows)) [])
     by false = omega (arith, numbers-most (length (x .rows)) [])
 
-trace-most : (p : List Line) (n k : ℕ) (s : State) → length (traceText p (run p n k s)) ≤ 36 * n + 13
+trace-most : (p : List Line) (n k : ℕ) (s : State) → length (traceText p (run p n k s)) ≤ rowBytes * n + 13
 trace-most p n k s =
     let x : Ran = run p n k s in
     omega (
@@ -115,15 +115,14 @@ trace-most p n k s =
       ending-most p x,
     )
 
--- 1,000 rows of six numbers, of at most five digits each, and the last line
-pub trace-most-bytes : (input : List ℕ) → length (tracePrints input) ≤ 36013
+pub trace-most-bytes : (input : List ℕ) → length (tracePrints input) ≤ traceBytes
 trace-most-bytes input =
-    rw (trace-prints input) (printed-most (λ p. lineRun (expand neighbours p)) 36013 (omega arith) (λ p A. trace-most (expand neighbours p) traceBudget 0 _) input)
+    rw (trace-prints input) (printed-most (λ p. lineRun (expand neighbours p)) traceBytes (omega arith) (λ p A. trace-most (expand neighbours p) traceBudget 0 _) input)
 
 -- ---- so the programs' stores always have room
 
-pub expansion-prints-all : (input out : List ℕ) → 452608 ≤ length out → fitted (expandPrints input) out ≡ outcome (counted (length (expandPrints input))) (atFront (expandPrints input) out ∷ [])
+pub expansion-prints-all : (input out : List ℕ) → expansionBytes ≤ length out → fitted (expandPrints input) out ≡ outcome (counted (length (expandPrints input))) (atFront (expandPrints input) out ∷ [])
 expansion-prints-all input out h = sym (all-fits (expandPrints input) out (omega (arith, expansion-most-bytes input)))
 
-pub trace-prints-all : (input out : List ℕ) → 36013 ≤ length out → fitted (tracePrints input) out ≡ outcome (counted (length (tracePrints input))) (atFront (tracePrints input) out ∷ [])
+pub trace-prints-all : (input out : List ℕ) → traceBytes ≤ length out → fitted (tracePrints input) out ≡ outcome (counted (length (tracePrints input))) (atFront (tracePrints input) out ∷ [])
 trace-prints-all input out h = sym (all-fits (tracePrints input) out (omega (arith, trace-most-bytes input)))

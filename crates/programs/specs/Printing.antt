@@ -1,10 +1,10 @@
--- The text of the rows of a trace store.
+-- The text of the rows of a trace store, and the most bytes that the programs print.
 -- Assumes nothing.
 use mathlib.Core.List.{List, [], _∷_, _++_, flatMap}
-use Prim.Native.Nat.{ℕ, zero, suc, _/_}
+use Prim.Native.Nat.{ℕ, zero, suc, _+_, _*_, _/_}
 use lib.ListN.{length, take, drop}
-use Rattle.model.specs.Limits.{rowWidth}
-use Rattle.model.specs.Programs.{numbersText}
+use Rattle.model.specs.Limits.{rowWidth, maxAccepted, longest}
+use Rattle.model.specs.Programs.{numbersText, traceBudget}
 
 -- the first n rows of numbers that stand one after the other
 unfoldable pub rowsFrom : ℕ → List ℕ → List (List ℕ)
@@ -20,3 +20,14 @@ rowsText n numbers = flatMap numbersText (rowsFrom n numbers)
 unfoldable pub linesText : List ℕ → List ℕ → List ℕ → List ℕ
 unfolding rowsText numbersText
 linesText rows word last = rowsText (length rows / rowWidth) rows ++ (word ++ numbersText last)
+
+-- a line of the expansion has at most 34 bytes
+abbrev pub expansionBytes : ℕ
+expansionBytes = 34 * longest * maxAccepted
+
+-- a number of a row has at most five digits, and a comma or the newline follows it; the last line has at most 13 bytes
+abbrev pub rowBytes : ℕ
+rowBytes = 6 * rowWidth
+
+abbrev pub traceBytes : ℕ
+traceBytes = rowBytes * traceBudget + 13

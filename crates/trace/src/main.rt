@@ -1,9 +1,10 @@
 // The second of the two programs of document 01: reads program text from standard input, and prints the trace of its expansion or the
 // refusal. What it prints is the contract of programs::print_trace; here it is only read and written.
 ghost use mathlib.Core.Path.{_≡_};
-ghost use Prim.Native.Nat.{_+_, _*_};
+ghost use Prim.Native.Nat.{_+_};
 ghost use lib.ListN.{length};
 ghost use Rattle.model.specs.Programs.{inputSize};
+ghost use Rattle.programs.specs.Printing.{traceBytes};
 use model::Answer;
 
 // Room for one byte more than the programs read, so that a longer input is told.
@@ -15,11 +16,11 @@ fn input_room() -> [u8; INPUT_ROOM]
     [0u8; INPUT_ROOM]
 }
 
-// Room for the text of every trace: 1,000 rows of six numbers, of at most five digits each, and a last line.
-const OUTPUT_ROOM: usize = 1000 * 36 + 13;
+// Room for the text of every trace.
+const OUTPUT_ROOM: usize = programs::TRACE_BYTES;
 
 fn output_room() -> [u8; OUTPUT_ROOM]
-    ensures { λ r. ⌜ length r ≡ 1000 * 36 + 13 ⌝ }
+    ensures { λ r. ⌜ length r ≡ traceBytes ⌝ }
 {
     [0u8; OUTPUT_ROOM]
 }
