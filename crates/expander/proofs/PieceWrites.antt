@@ -1,7 +1,7 @@
 -- The pieces written line by line, an opcode's macro by its arm, and a line's part: each is what the definition lists.
 -- Assumes nothing.
-use mathlib.Core.Path.{_≡_}
-use mathlib.Core.Bool.{true, false}
+use mathlib.Core.Path.{_≡_, refl}
+use mathlib.Core.Bool.{Bool, true, false, cond}
 use mathlib.Core.List.{List, [], _∷_}
 use Prim.Native.Nat.{ℕ, _+_, _*_, _≤_, _<_}
 use native.Mathlib.Omega.{arith}
@@ -9,12 +9,13 @@ use lib.ListN.{length, getD}
 use Rattle.model.specs.declared.Layout.{Layout}
 use Rattle.model.specs.declared.Mark.the-variants.{Unmarked}
 use Rattle.model.specs.declared.Opcode.{Opcode}
-use Rattle.model.specs.declared.Opcode.the-variants.{And, Orr, Xor, Lsl}
+use Rattle.model.specs.declared.Opcode.the-variants.{Nop, Jmp, Not, Mov, And, Orr, Xor, Lsl, Lsr, Add, Mul, Beq, Bne}
 use Rattle.model.specs.declared.Operand.{Operand}
 use Rattle.model.specs.declared.Operand.the-variants.{Literal, TableCell}
 use Rattle.model.specs.Stored.{registers, opcodeOf, operandOf, targetOf, lineAt}
-use Rattle.model.specs.Expansion.{coded, markedLine, move, precharged, load, shifts, scale, combine, fetch, flip, writeBack, macro, newTarget, part}
+use Rattle.model.specs.Expansion.{coded, markedLine, move, precharged, load, shifts, scale, combine, fetch, flip, writeBack, lookup, macro, newTarget, part}
 use Rattle.coding.specs.Fields.{numbersAt}
+use Rattle.expander.specs.Opcodes.{hasTable, tableOf, unary}
 use Rattle.expander.specs.Writes.{lineWith, Wrote}
 use Rattle.expander.proofs.StoreWrites.{wrote-none, wrote-then}
 use Rattle.expander.proofs.PartSizes.{plain-part, marked-is}
@@ -61,16 +62,41 @@ module _ {out o o′ : List ℕ} {at k m : ℕ} where
     unfolding scale shifts operandOf
     near-wrote q w v u = rw (← e, q) (wrote-then w (wrote-then v u))
 
--- ---- an opcode's macro, by its arm, and the room for it; an opcode without one
+-- ---- an opcode's macro, by whether it has a table
 
-module _ (L : Layout) (x y : Opcode) (d a b : Operand) (e : x ≡ y) where
-  pub macro-wrote : {out o : List ℕ} {at k : ℕ} → Wrote out o at k (macro L y d a b) → Wrote out o at k (macro L x d a b)
-  macro-wrote h = rw e h
+macro-by : (L : Layout) (o : Opcode) (d a b : Operand) → macro L o d a b ≡ cond (hasTable o) (lookup L (tableOf L o) d a b) (unary L o d a)
+unfolding macro unary
+macro-by L Nop d a b = refl
+macro-by L Jmp d a b = refl
+macro-by L Not d a b = refl
+macro-by L Mov d a b = refl
+macro-by L And d a b = refl
+macro-by L Orr d a b = refl
+macro-by L Xor d a b = refl
+macro-by L Lsl d a b = refl
+macro-by L Lsr d a b = refl
+macro-by L Add d a b = refl
+macro-by L Mul d a b = refl
+macro-by L Beq d a b = refl
+macro-by L Bne d a b = refl
 
-  pub macro-room : (out : List ℕ) (at : ℕ) → 6 * (at + length (macro L x d a b)) ≤ length out → 6 * (at + length (macro L y d a b)) ≤ length out
-  macro-room out at h = rw (← e) h
+module _ (L : Layout) (o : Opcode) (d a b : Operand) (x : Bool) (e : x ≡ hasTable o) where
+  pub table-macro : (t : ℕ) → x ≡ true → t ≡ tableOf L o → macro L o d a b ≡ lookup L t d a b
+  table-macro t y f = rw (f, macro-by L o d a b, ← e, y)
 
-  pub nothing-wrote : (out : List ℕ) (at : ℕ) → macro L y d a b ≡ [] → 6 * (at + length (macro L x d a b)) ≤ length out → Wrote out out at at (macro L x d a b)
+  pub unary-macro : x ≡ false → macro L o d a b ≡ unary L o d a
+  unary-macro n = rw (macro-by L o d a b, ← e, n)
+
+-- ---- one without a table, by its arm, and the room for it; an opcode without a macro
+
+module _ (L : Layout) (x y : Opcode) (d a : Operand) (e : x ≡ y) where
+  pub arm-wrote : {out o : List ℕ} {at k : ℕ} → Wrote out o at k (unary L y d a) → Wrote out o at k (unary L x d a)
+  arm-wrote h = rw e h
+
+  pub arm-room : (out : List ℕ) (at : ℕ) → 6 * (at + length (unary L x d a)) ≤ length out → 6 * (at + length (unary L y d a)) ≤ length out
+  arm-room out at h = rw (← e) h
+
+  pub nothing-wrote : (out : List ℕ) (at : ℕ) → unary L y d a ≡ [] → 6 * (at + length (unary L x d a)) ≤ length out → Wrote out out at at (unary L x d a)
   nothing-wrote out at z h = rw (e, z) (wrote-none out at (omega (arith, rw (e, z) at h)))
 
 -- ---- a line's part, by its mark

@@ -8,6 +8,7 @@ ghost use Rattle.model.specs.declared.Operand.{Operand};
 ghost use Rattle.model.specs.declared.Target.{Target};
 ghost use Rattle.model.specs.Stored.{targetCode, operandOf, lineAt};
 ghost use Rattle.model.specs.Expansion.{coded, markedLine, move, precharged, load, scale, combine, fetch, flip, writeBack, lookup, negate, copy, macro, size};
+ghost use Rattle.expander.specs.Opcodes.{hasTable, tableOf, unary};
 ghost use Rattle.expander.specs.Writes.{lineWith, Wrote};
 use model::LINE_WIDTH;
 use model::Layout;
@@ -194,7 +195,71 @@ fn put_copy(out: &mut [u16], at: usize, d: u16, a: u16) -> usize
     put_write_back(out, loaded, 3, d)
 }
 
-// The macro of an opcode; those that no marked line of an accepted program has give nothing.
+// Whether an opcode looks up a table,
+fn has_table(o: Opcode) -> bool
+    ensures { λ r. ⌜ r ≡ hasTable o ⌝ }
+{
+    match o {
+        Opcode::Nop => false,
+        Opcode::Jmp => false,
+        Opcode::Not => false,
+        Opcode::Mov => false,
+        Opcode::And => true,
+        Opcode::Orr => true,
+        Opcode::Xor => true,
+        Opcode::Lsl => false,
+        Opcode::Lsr => false,
+        Opcode::Add => false,
+        Opcode::Mul => false,
+        Opcode::Beq => false,
+        Opcode::Bne => false,
+    }
+}
+
+// and where that begins, counted from cell 256.
+fn table_of(layout: Layout, o: Opcode) -> u8
+    ensures { λ r. ⌜ r ≡ tableOf layout o ⌝ }
+{
+    match o {
+        Opcode::Nop => 0,
+        Opcode::Jmp => 0,
+        Opcode::Not => 0,
+        Opcode::Mov => 0,
+        Opcode::And => 0,
+        Opcode::Orr => layout.orr,
+        Opcode::Xor => layout.xor,
+        Opcode::Lsl => 0,
+        Opcode::Lsr => 0,
+        Opcode::Add => 0,
+        Opcode::Mul => 0,
+        Opcode::Beq => 0,
+        Opcode::Bne => 0,
+    }
+}
+
+// not and mov; an opcode without a macro gives nothing.
+fn put_unary(out: &mut [u16], at: usize, layout: Layout, o: Opcode, d: u16, a: u16) -> usize
+    requires { ⌜ 6 * (at + length (unary layout o (operandOf d) (operandOf a))) ≤ length (now out) ⌝ }
+    ensures { λ r. ⌜ Wrote (now (out .entry)) (now (out .exit)) at r (unary layout o (operandOf d) (operandOf a)) ⌝ }
+{
+    match o {
+        Opcode::Nop => at,
+        Opcode::Jmp => at,
+        Opcode::Not => put_negate(out, at, layout, d, a),
+        Opcode::Mov => put_copy(out, at, d, a),
+        Opcode::And => at,
+        Opcode::Orr => at,
+        Opcode::Xor => at,
+        Opcode::Lsl => at,
+        Opcode::Lsr => at,
+        Opcode::Add => at,
+        Opcode::Mul => at,
+        Opcode::Beq => at,
+        Opcode::Bne => at,
+    }
+}
+
+// The macro of an opcode. The lookup is called in one place, so that the compiler joins it to the loop over the lines.
 pub fn put_macro(
     out: &mut [u16],
     at: usize,
@@ -207,21 +272,10 @@ pub fn put_macro(
     requires { ⌜ 6 * (at + length (macro layout o (operandOf d) (operandOf a) (operandOf b))) ≤ length (now out) ⌝ }
     ensures { λ r. ⌜ Wrote (now (out .entry)) (now (out .exit)) at r (macro layout o (operandOf d) (operandOf a) (operandOf b)) ⌝ }
 {
-    match o {
-        Opcode::Nop => at,
-        Opcode::Jmp => at,
-        Opcode::Not => put_negate(out, at, layout, d, a),
-        Opcode::Mov => put_copy(out, at, d, a),
-        Opcode::And => put_lookup(out, at, layout, 0, d, a, b),
-        Opcode::Orr => put_lookup(out, at, layout, layout.orr, d, a, b),
-        Opcode::Xor => put_lookup(out, at, layout, layout.xor, d, a, b),
-        Opcode::Lsl => at,
-        Opcode::Lsr => at,
-        Opcode::Add => at,
-        Opcode::Mul => at,
-        Opcode::Beq => at,
-        Opcode::Bne => at,
+    if has_table(o) {
+        return put_lookup(out, at, layout, table_of(layout, o), d, a, b);
     }
+    put_unary(out, at, layout, o, d, a)
 }
 
 // ---- how long a part is
