@@ -1,39 +1,39 @@
 // How a case of `stdin` is written: its fields and numbers, what it says about memory, and what it says about the answer and the text.
-// Nothing here calls what is tested, so that main.rt has the calls alone.
+// Nothing here calls what is tested: main.rt has the calls.
 ghost use Prim.Native.Nat.{_-_, _≤_};
 ghost use lib.ListN.{length};
 use model::Answer;
 
 // The fields of a case, in their order.
-pub const NAME: usize = 0;
+pub(super) const NAME: usize = 0;
 
-pub const CALL: usize = 1;
+pub(super) const CALL: usize = 1;
 
-pub const PROGRAM: usize = 2;
+pub(super) const PROGRAM: usize = 2;
 
 const NUMBERS: usize = 3;
 
 const ANSWER: usize = 4;
 
-pub const BEFORE: usize = 5;
+pub(super) const BEFORE: usize = 5;
 
 const AFTER: usize = 6;
 
 const TEXT: usize = 7;
 
 // The largest number of 16 bits, as stored numbers, starts and budgets are.
-pub const LARGEST: usize = 65535;
+pub(super) const LARGEST: usize = 65535;
 
 // ---- fields and numbers
 
 // What stands before the first mark, or all where there is none.
-pub fn head(bytes: &[u8], mark: u8) -> &[u8] {
+pub(super) fn head(bytes: &[u8], mark: u8) -> &[u8] {
     let end = bytes::scan::find(bytes, 0, bytes.len(), mark);
     &bytes[0..end]
 }
 
 // What stands after the first mark, or nothing where there is none.
-pub fn tail(bytes: &[u8], mark: u8) -> &[u8]
+pub(super) fn tail(bytes: &[u8], mark: u8) -> &[u8]
     ensures { λ r. ⌜ length (now r) ≤ length (now (bytes .entry)) - 1 ⌝ }
 {
     let end = bytes::scan::find(bytes, 0, bytes.len(), mark);
@@ -57,17 +57,17 @@ fn part(bytes: &[u8], n: usize, mark: u8) -> &[u8] {
     head(rest, mark)
 }
 
-pub fn field(line: &[u8], n: usize) -> &[u8] {
+pub(super) fn field(line: &[u8], n: usize) -> &[u8] {
     part(line, n, b'|')
 }
 
 // The first byte, or 0 where there is none.
-pub fn first(bytes: &[u8]) -> u8 {
+pub(super) fn first(bytes: &[u8]) -> u8 {
     if 0 < bytes.len() { bytes[0] } else { 0 }
 }
 
 // Whether a digit comes first.
-pub fn is_number(bytes: &[u8]) -> bool {
+pub(super) fn is_number(bytes: &[u8]) -> bool {
     let byte = first(bytes);
     b'0' <= byte && byte <= b'9'
 }
@@ -90,7 +90,7 @@ fn with_digit(n: usize, byte: u8) -> usize
 }
 
 // The number that the digits among the bytes write; 0 where there are none.
-pub fn decimal(bytes: &[u8]) -> usize
+pub(super) fn decimal(bytes: &[u8]) -> usize
     ensures { λ r. ⌜ r ≤ 999999 ⌝ }
 {
     let mut n: usize = 0;
@@ -102,14 +102,14 @@ pub fn decimal(bytes: &[u8]) -> usize
     n
 }
 
-pub fn least(n: usize, most: usize) -> usize
+pub(super) fn least(n: usize, most: usize) -> usize
     ensures { λ r. ⌜ r ≤ most ⌝ }
 {
     if n <= most { n } else { most }
 }
 
 // Number n of a case, as far as there is room for it.
-pub fn size(line: &[u8], n: usize, most: usize) -> usize
+pub(super) fn size(line: &[u8], n: usize, most: usize) -> usize
     ensures { λ r. ⌜ r ≤ most ⌝ }
 {
     least(decimal(part(field(line, NUMBERS), n, b' ')), most)
@@ -143,7 +143,7 @@ fn put_one(item: &[u8], bytes: &mut [u8], numbers: &mut [u16]) {
 }
 
 // Sets what a list says.
-pub fn put(list: &[u8], bytes: &mut [u8], numbers: &mut [u16]) {
+pub(super) fn put(list: &[u8], bytes: &mut [u8], numbers: &mut [u16]) {
     let mut rest = list;
     while 0 < rest.len() {
         put_one(head(rest, b' '), bytes, numbers);
@@ -248,13 +248,13 @@ fn is_answer(answer: Answer, expected: &[u8]) -> bool {
 }
 
 // Whether the bytes begin with the text of a case.
-pub fn is_text(line: &[u8], bytes: &[u8]) -> bool {
+pub(super) fn is_text(line: &[u8], bytes: &[u8]) -> bool {
     let text = field(line, TEXT);
     let end = text.len();
     end <= bytes.len() && check::same(&bytes[0..end], text)
 }
 
 // Whether a call gave the answer of its case, and left what the case says.
-pub fn is_right(line: &[u8], answer: Answer, bytes: &[u8], numbers: &[u16]) -> bool {
+pub(super) fn is_right(line: &[u8], answer: Answer, bytes: &[u8], numbers: &[u16]) -> bool {
     is_answer(answer, field(line, ANSWER)) && holds(field(line, AFTER), bytes, numbers)
 }
