@@ -37,16 +37,20 @@ put-parts-requires c κs =
 
 cast-t19 : tie.Need-cast-t19
 cast-t19 c =
-    let s = c .before .before .before .before .before .before .before .before .before .before in
-    omega (arith, total-few (s .args .layout) (s .pre .0) (s .args .program .now) _ (s .args .out .now) (s .pre .1) (c .before .before .before .before .before .before .fill-starts .ensures))
+    let f = c .before .before .before .before .before .before in
+    let s = f .before .before .before .before in
+    omega (arith, total-few (s .args .layout) (s .pre .0) (s .args .program .now) _ (s .args .out .now) (s .pre .1) (f .fill-starts .ensures))
 
 same-length : tie.Need-same-length
 same-length c = search needs
 
 returns-2 : tie.Need-returns-2
 returns-2 c =
-    let s = c .before .before .before .before .before .before .before .before .before .before in
-    all-written (s .args .layout) (s .pre .0) (s .args .program .now) _ (s .args .out .now) (s .pre .1) (c .before .before .before .before .before .before .fill-starts .ensures) _ (c .before .before .before .before .before .if1 .left) (c .before .before .put-parts .ensures)
+    let i = c .before .before .before .before .before in
+    let f = i .before in
+    let s = f .before .before .before .before in
+    all-written (s .args .layout) (s .pre .0) (s .args .program .now) _ (s .args .out .now) (s .pre .1) (f .fill-starts .ensures) _ (i .if1 .left)
+    (c .before .before .put-parts .ensures)
 
 pub write-expansion-spec : {M : Type 1} → statement M
 write-expansion-spec =

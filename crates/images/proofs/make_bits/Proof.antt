@@ -29,8 +29,8 @@ same-length c = search needs
 
 returns-3 : tie.Need-returns-3
 returns-3 c =
-    let s = c .before .before .before .before .before .before .before .before .before .before in
     let d = c .before .before .before .before in
+    let s = d .before .before .before .before .before .before in
     goes-over (imageRight (s .args .layout)) (back (s .args .layout)) (s .args .image .now) (s .args .bits .now) _ _ (d .before .before .before .if1 .left) (d .before .before .if2 .left) (d .before .places-right .ensures) (d .if3 .taken) (c .before .before .put-back .ensures)
 
 returns-4 : tie.Need-returns-4

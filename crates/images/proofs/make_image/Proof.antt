@@ -29,8 +29,8 @@ same-length c = search needs
 
 returns-3 : tie.Need-returns-3
 returns-3 c =
-    let s = c .before .before .before .before .before .before .before .before .before .before in
     let d = c .before .before .before .before in
+    let s = d .before .before .before .before .before .before in
     goes-over bitRight (image (s .args .layout)) (s .args .bits .now) (s .args .image .now) _ _ (d .before .before .before .if1 .left) (d .before .before .if2 .left) (d .before .bits-right .ensures) (d .if3 .taken) (c .before .before .put-image .ensures)
 
 returns-4 : tie.Need-returns-4

@@ -79,12 +79,23 @@ same-length c = search needs
 
 returns : tie.Need-returns
 returns c =
-    let x = c .before .before .before .before .before .before .before .before .before .before .before .before .before .before .before .before .before .args in
-    let w = c .before .before .before .replace in
-    performed (lineOf (x .m) (x .o) (x .d) (x .a) (x .b) (x .t)) (x .counter) (x .state .now) _ (c .before .before .before .before .before .before .before .before .before .before .before .before .before .before .before .mark-of .result) (c .before .before .before .before .before .before .before .before .before .before .before .before .before .before .opcode-of .result) (c .before .before .before .before .before .before .before .is-taken .result) (c .before .before .before .before .before .before .before .before .before .before .before .before .fetch .result) (c .before .before .before .before .before .before .before .before .before .before .fetch2 .result) (c .before .before .before .before .before .before .before .before .before .read-arguments .result) (w .result .place) _ _ _ _ (c .row-of .result)
-    (c .before .before .before .before .before .before .before .before .before .before .before .before .before .before .before .mark-of .ensures) (c .before .before .before .before .before .before .before .before .before .before .before .before .before .before .opcode-of .ensures) (c .before .before .before .before .before .before .before .before .before .before .before .before .fetch .ensures) (c .before .before .before .before .before .before .before .before .before .before .fetch2 .ensures) (c .before .before .before .before .before .before .before .before .before .read-arguments .ensures)
-    (c .before .before .before .before .before .before .before .before .alu .ensures) (c .before .before .before .before .before .before .before .is-taken .ensures) (c .before .before .before .before .before .before .target-line .ensures) (c .before .before .before .before .before .advanced .ensures)
-    (w .ensures .0 .0) (w .ensures .0 .1) (w .ensures .1) (c .row-of .ensures)
+    let w = c .before .before .before in
+    let n = w .before .before in
+    let g = n .before in
+    let j = g .before in
+    let r = j .before in
+    let z = r .before in
+    let y = z .before in
+    let x = y .before .before in
+    let p = x .before .before in
+    let m = p .before in
+    let s = m .before .before in
+    performed (lineOf (s .args .m) (s .args .o) (s .args .d) (s .args .a) (s .args .b) (s .args .t)) (s .args .counter) (s .args .state .now) _
+    (m .mark-of .result) (p .opcode-of .result) (j .is-taken .result) (x .fetch .result) (y .fetch2 .result) (z .read-arguments .result)
+    (w .replace .result .place) _ _ _ _ (c .row-of .result)
+    (m .mark-of .ensures) (p .opcode-of .ensures) (x .fetch .ensures) (y .fetch2 .ensures) (z .read-arguments .ensures)
+    (r .alu .ensures) (j .is-taken .ensures) (g .target-line .ensures) (n .advanced .ensures)
+    (w .replace .ensures .0 .0) (w .replace .ensures .0 .1) (w .replace .ensures .1) (c .row-of .ensures)
 
 pub perform-spec : {M : Type 1} → statement M
 perform-spec =

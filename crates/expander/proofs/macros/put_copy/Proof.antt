@@ -11,7 +11,9 @@ put-load-requires : tie.Need-put-load-requires
 put-load-requires c κs = (omega arith, omega (arith, simp copy-pieces at (c .before .before .pre)))
 
 put-write-back-requires : tie.Need-put-write-back-requires
-put-write-back-requires c κs = (omega arith, omega (arith, simp copy-pieces at (c .before .before .before .before .before .before .pre)))
+put-write-back-requires c κs =
+    let loaded = c .before .before .before in
+    (omega arith, omega (arith, simp copy-pieces at (loaded .before .before .before .pre)))
 
 same-length : tie.Need-same-length
 same-length c = search needs

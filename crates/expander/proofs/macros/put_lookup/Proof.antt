@@ -11,19 +11,39 @@ put-load-requires : tie.Need-put-load-requires
 put-load-requires c κs = (omega arith, omega (arith, simp lookup-pieces at (c .before .before .pre)))
 
 put-scale-requires : tie.Need-put-scale-requires
-put-scale-requires c κs = omega (arith, simp lookup-pieces at (c .before .before .before .before .before .before .pre))
+put-scale-requires c κs =
+    let first = c .before .before .before in
+    omega (arith, simp lookup-pieces at (first .before .before .before .pre))
 
 put-load-requires-2 : tie.Need-put-load-requires-2
-put-load-requires-2 c κs = (omega arith, omega (arith, simp lookup-pieces at (c .before .before .before .before .before .before .before .before .before .before .pre)))
+put-load-requires-2 c κs =
+    let scaled = c .before .before .before in
+    let first = scaled .before .before .before .before in
+    (omega arith, omega (arith, simp lookup-pieces at (first .before .before .before .pre)))
 
 put-combine-requires : tie.Need-put-combine-requires
-put-combine-requires c κs = omega (arith, simp lookup-pieces at (c .before .before .before .before .before .before .before .before .before .before .before .before .before .before .pre))
+put-combine-requires c κs =
+    let second = c .before .before .before in
+    let scaled = second .before .before .before .before in
+    let first = scaled .before .before .before .before in
+    omega (arith, simp lookup-pieces at (first .before .before .before .pre))
 
 put-fetch-requires : tie.Need-put-fetch-requires
-put-fetch-requires c κs = omega (arith, simp lookup-pieces at (c .before .before .before .before .before .before .before .before .before .before .before .before .before .before .before .before .before .before .pre))
+put-fetch-requires c κs =
+    let combined = c .before .before .before in
+    let second = combined .before .before .before .before in
+    let scaled = second .before .before .before .before in
+    let first = scaled .before .before .before .before in
+    omega (arith, simp lookup-pieces at (first .before .before .before .pre))
 
 put-write-back-requires : tie.Need-put-write-back-requires
-put-write-back-requires c κs = (omega arith, omega (arith, simp lookup-pieces at (c .before .before .before .before .before .before .before .before .before .before .before .before .before .before .before .before .before .before .before .before .before .before .pre)))
+put-write-back-requires c κs =
+    let fetched = c .before .before .before in
+    let combined = fetched .before .before .before .before in
+    let second = combined .before .before .before .before in
+    let scaled = second .before .before .before .before in
+    let first = scaled .before .before .before .before in
+    (omega arith, omega (arith, simp lookup-pieces at (first .before .before .before .pre)))
 
 same-length : tie.Need-same-length
 same-length c = search needs

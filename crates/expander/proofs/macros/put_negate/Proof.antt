@@ -11,10 +11,15 @@ put-load-requires : tie.Need-put-load-requires
 put-load-requires c κs = (omega arith, omega (arith, simp negate-pieces at (c .before .before .pre)))
 
 put-flip-requires : tie.Need-put-flip-requires
-put-flip-requires c κs = omega (arith, simp negate-pieces at (c .before .before .before .before .before .before .pre))
+put-flip-requires c κs =
+    let loaded = c .before .before .before in
+    omega (arith, simp negate-pieces at (loaded .before .before .before .pre))
 
 put-write-back-requires : tie.Need-put-write-back-requires
-put-write-back-requires c κs = (omega arith, omega (arith, simp negate-pieces at (c .before .before .before .before .before .before .before .before .before .before .pre)))
+put-write-back-requires c κs =
+    let flipped = c .before .before .before in
+    let loaded = flipped .before .before .before .before in
+    (omega arith, omega (arith, simp negate-pieces at (loaded .before .before .before .pre)))
 
 same-length : tie.Need-same-length
 same-length c = search needs

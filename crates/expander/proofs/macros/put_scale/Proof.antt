@@ -19,16 +19,26 @@ same-length : tie.Need-same-length
 same-length c = search needs
 
 returns : tie.Need-returns
-returns c = spaced-wrote _ _ (c .before .before .before .before .before .before .before .before .literal .ensures) (c .if1 .taken) (c .before .before .before .before .before .before .before .put-marked .ensures) (c .before .before .before .put-marked2 .ensures)
+returns c =
+    let shifted = c .before .before .before in
+    let masked = shifted .before .before .before .before in
+    spaced-wrote _ _ (masked .before .literal .ensures) (c .if1 .taken) (masked .put-marked .ensures) (shifted .put-marked2 .ensures)
 
 put-marked-requires-3 : tie.Need-put-marked-requires-3
-put-marked-requires-3 c κs = omega (arith, scale-near (c .before .before .before .before .before .before .before .before .before .before .before .before .args .layout) (c .before .if1 .left))
+put-marked-requires-3 c κs =
+    let shifted = c .before .before .before .before in
+    let masked = shifted .before .before .before .before in
+    omega (arith, scale-near (masked .before .before .before .before .args .layout) (c .before .if1 .left))
 
 same-length-2 : tie.Need-same-length-2
 same-length-2 c = search needs
 
 returns-2 : tie.Need-returns-2
-returns-2 c = near-wrote _ _ (c .before .before .before .before .before .before .before .before .before .before .before .before .literal .ensures) (c .before .before .before .before .if1 .left) (c .before .before .before .before .before .before .before .before .before .before .before .put-marked .ensures) (c .before .before .before .before .before .before .before .put-marked2 .ensures) (c .before .before .put-marked3 .ensures)
+returns-2 c =
+    let twice = c .before .before in
+    let shifted = twice .before .before .before .before .before in
+    let masked = shifted .before .before .before .before in
+    near-wrote _ _ (masked .before .literal .ensures) (twice .before .before .if1 .left) (masked .put-marked .ensures) (shifted .put-marked2 .ensures) (twice .put-marked3 .ensures)
 
 pub put-scale-spec : {M : Type 1} → statement M
 put-scale-spec =
