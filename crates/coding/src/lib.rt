@@ -1,7 +1,7 @@
 // What lines and bits are as numbers. 'Line form' of document 01, stored programs: six numbers to a line and back, conditions 3 to 6 of
 // six numbers, and the check of a whole program (7, 3 to 6). Decoding is total: every number gives some field, and the check says
-// whether the numbers are a line. Last the kind of a place, from 'Places of the machine', and the code of a bit, from 'Code, tables,
-// macros'.
+// whether the numbers are a line. Last the kind of a place, from 'Places of the machine', and the layout and the code of a bit, from
+// 'Code, tables, macros'.
 ghost use mathlib.Core.Path.{_≡_};
 ghost use mathlib.Core.List.{map};
 ghost use Prim.Native.Nat.{_%_, _≤_};

@@ -1,4 +1,4 @@
--- The numbers that are written: of a line, of a register, of a literal's code; and what a mark's number tells.
+-- The numbers that are written: of a register, a table cell and a literal, of a line, of a literal's code; and what a mark's number tells.
 -- Assumes nothing.
 use mathlib.Core.Path.{_≡_, refl, sym}
 use mathlib.Core.Bool.{true}
@@ -28,6 +28,14 @@ pub register-number : (n : ℕ) → n < 32 → operandOf (registers + n) ≡ Reg
 unfolding operandRight
 register-number n h = operand-there true (Register n) (lt→ltb n 32 h) .same
 
+pub table-number : (n t : ℕ) → n < 32 → t < 256 → operandOf (tables + 256 * n + t) ≡ TableCell n t
+unfolding operandRight
+table-number n t g h = operand-there true (TableCell n t) (both-and (ltb n 32) (ltb t 256) (lt→ltb n 32 g) (lt→ltb t 256 h)) .same
+
+pub literal-number : (n : ℕ) → n < 256 → operandOf (literals + n) ≡ Literal n
+unfolding operandRight
+literal-number n h = operand-there true (Literal n) (le→leb n 255 (omega arith)) .same
+
 -- a number of 16 bits is stored as it is
 operand-stored : (n : ℕ) → n < 65536 → n ≡ operandCode (operandOf n) % 65536
 operand-stored n h = sym (rw (operand-number n) (mod-eq-of-lt h))
@@ -43,15 +51,7 @@ line-stored m o d a b t y hd ha hb e =
     let eb = operand-stored b hb in
     cc
 
-pub table-number : (n t : ℕ) → n < 32 → t < 256 → operandOf (tables + 256 * n + t) ≡ TableCell n t
-unfolding operandRight
-table-number n t g h = operand-there true (TableCell n t) (both-and (ltb n 32) (ltb t 256) (lt→ltb n 32 g) (lt→ltb t 256 h)) .same
-
--- ---- a literal, and its code
-
-pub literal-number : (n : ℕ) → n < 256 → operandOf (literals + n) ≡ Literal n
-unfolding operandRight
-literal-number n h = operand-there true (Literal n) (le→leb n 255 (omega arith)) .same
+-- ---- a literal's code
 
 pub coded-literal : (L : Layout) (n x r : ℕ) → literals ≤ n → n < registers → x ≡ code L (n - literals) → operandOf r ≡ Literal x → operandOf r ≡ coded L (operandOf n)
 unfolding coded

@@ -12,7 +12,7 @@ use Rattle.model.specs.declared.Opcode.{Opcode}
 use Rattle.model.specs.declared.Opcode.the-variants.{Nop, Jmp, Not, Mov, And, Orr, Xor, Lsl, Lsr, Add, Mul, Beq, Bne}
 use Rattle.model.specs.declared.Operand.{Operand}
 use Rattle.model.specs.declared.Operand.the-variants.{Literal, TableCell}
-use Rattle.model.specs.Stored.{registers, opcodeOf, operandOf, targetOf, lineAt}
+use Rattle.model.specs.Stored.{literals, registers, opcodeOf, operandOf, targetOf, lineAt}
 use Rattle.model.specs.Expansion.{coded, markedLine, move, precharged, load, shifts, scale, combine, fetch, flip, writeBack, lookup, macro, newTarget, part}
 use Rattle.coding.specs.Fields.{numbersAt}
 use Rattle.expander.specs.Opcodes.{hasTable, tableOf, unary}
@@ -32,11 +32,11 @@ module _ {out o : List ℕ} {at k : ℕ} where
   unfolding writeBack
   write-back-wrote n d g w = rw (← register-number n g) w
 
-  pub fetch-wrote : (t : ℕ) (x : Operand) → x ≡ TableCell 1 t → Wrote out o at k (precharged (operandOf 260) x) → Wrote out o at k (fetch t)
+  pub fetch-wrote : (t : ℕ) (x : Operand) → x ≡ TableCell 1 t → Wrote out o at k (precharged (operandOf (registers + 3)) x) → Wrote out o at k (fetch t)
   unfolding fetch operandOf
   fetch-wrote t x e w = rw (← e) w
 
-  pub flip-wrote : (L : Layout) (x : Operand) → x ≡ Literal (L .mask) → Wrote out o at k (markedLine Xor (operandOf 258) (operandOf 258) x ∷ []) → Wrote out o at k (flip L)
+  pub flip-wrote : (L : Layout) (x : Operand) → x ≡ Literal (L .mask) → Wrote out o at k (markedLine Xor (operandOf (registers + 1)) (operandOf (registers + 1)) x ∷ []) → Wrote out o at k (flip L)
   unfolding flip operandOf
   flip-wrote L x e w = rw (← e) w
 
@@ -45,20 +45,20 @@ module _ {out o o′ : List ℕ} {at k m : ℕ} where
   precharged-wrote d a w v = rw (← register-number 0 (omega arith)) (wrote-then w v)
 
   module _ (L : Layout) (x : Operand) (e : x ≡ Literal (L .mask)) where
-    pub combine-wrote : Wrote out o at k (markedLine And (operandOf 259) (operandOf 259) x ∷ [])
-        → Wrote o o′ k m (markedLine Orr (operandOf 258) (operandOf 258) (operandOf 259) ∷ []) → Wrote out o′ at m (combine L)
+    pub combine-wrote : Wrote out o at k (markedLine And (operandOf (registers + 2)) (operandOf (registers + 2)) x ∷ [])
+        → Wrote o o′ k m (markedLine Orr (operandOf (registers + 1)) (operandOf (registers + 1)) (operandOf (registers + 2)) ∷ []) → Wrote out o′ at m (combine L)
     unfolding combine operandOf
     combine-wrote w v = rw (← e) (wrote-then w v)
 
     -- by whether the bits are spaced
-    pub spaced-wrote : L .spaced ≡ true → Wrote out o at k (markedLine And (operandOf 258) (operandOf 258) x ∷ [])
-        → Wrote o o′ k m (markedLine Lsl (operandOf 258) (operandOf 258) (operandOf 2) ∷ []) → Wrote out o′ at m (scale L)
+    pub spaced-wrote : L .spaced ≡ true → Wrote out o at k (markedLine And (operandOf (registers + 1)) (operandOf (registers + 1)) x ∷ [])
+        → Wrote o o′ k m (markedLine Lsl (operandOf (registers + 1)) (operandOf (registers + 1)) (operandOf (literals + 1)) ∷ []) → Wrote out o′ at m (scale L)
     unfolding scale shifts operandOf
     spaced-wrote q w v = rw (← e, q) (wrote-then w v)
 
-    pub near-wrote : {o″ : List ℕ} {l : ℕ} → L .spaced ≡ false → Wrote out o at k (markedLine And (operandOf 258) (operandOf 258) x ∷ [])
-        → Wrote o o′ k m (markedLine Lsl (operandOf 258) (operandOf 258) (operandOf 2) ∷ [])
-        → Wrote o′ o″ m l (markedLine Lsl (operandOf 258) (operandOf 258) (operandOf 2) ∷ []) → Wrote out o″ at l (scale L)
+    pub near-wrote : {o″ : List ℕ} {l : ℕ} → L .spaced ≡ false → Wrote out o at k (markedLine And (operandOf (registers + 1)) (operandOf (registers + 1)) x ∷ [])
+        → Wrote o o′ k m (markedLine Lsl (operandOf (registers + 1)) (operandOf (registers + 1)) (operandOf (literals + 1)) ∷ [])
+        → Wrote o′ o″ m l (markedLine Lsl (operandOf (registers + 1)) (operandOf (registers + 1)) (operandOf (literals + 1)) ∷ []) → Wrote out o″ at l (scale L)
     unfolding scale shifts operandOf
     near-wrote q w v u = rw (← e, q) (wrote-then w (wrote-then v u))
 

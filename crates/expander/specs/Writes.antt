@@ -24,7 +24,7 @@ unfoldable pub put : List ℕ → ℕ → List Line → List ℕ
 unfolding flatMap
 put out k ls = take (lineWidth * k) out ++ flatMap encoded ls ++ drop (lineWidth * (k + length ls)) out
 
--- a store after lines were put into it from line k on, up to line n
+-- o is the store `out` after the lines were put into it from line k on, and n is the line past them
 pub record Wrote (out o : List ℕ) (k n : ℕ) (ls : List Line) : Type 0 where
   pub ends : n ≡ k + length ls
   pub fits : lineWidth * n ≤ length out

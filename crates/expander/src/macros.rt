@@ -1,5 +1,5 @@
 // The lines that a line becomes, written into a lent store as stored numbers: a line, the pieces of the macros, the macros; and how
-// long a part is. Each is written from a line of the store on and hands back the line past its last, so that the next goes on there.
+// long a part is. Each `put_..` writes from line `at` on and hands back the line past its last, where the next goes on.
 ghost use mathlib.Core.Path.{_≡_};
 ghost use mathlib.Core.List.{[], _∷_};
 ghost use Prim.Native.Nat.{ℕ, _+_, _*_, _%_, _≤_, _<_};
@@ -15,12 +15,14 @@ use model::Layout;
 use model::Mark;
 use model::Opcode;
 
-// The numbers of r0 to r2 and of #1.
+// The numbers of r0 to r3 and of #1.
 const R0: u16 = coding::REGISTERS;
 
 const R1: u16 = coding::REGISTERS + 1;
 
 const R2: u16 = coding::REGISTERS + 2;
+
+const R3: u16 = coding::REGISTERS + 3;
 
 const ONE: u16 = coding::LITERALS + 1;
 
@@ -142,7 +144,7 @@ fn put_fetch(out: &mut [u16], at: usize, t: u8) -> usize
     requires { ⌜ 6 * (at + length (fetch t)) ≤ length (now out) ⌝ }
     ensures { λ r. ⌜ Wrote (now (out .entry)) (now (out .exit)) at r (fetch t) ⌝ }
 {
-    put_precharged(out, at, R0 + 3, table_cell(1, t))
+    put_precharged(out, at, R3, table_cell(1, t))
 }
 
 // Both bits of the code flipped.
@@ -195,7 +197,7 @@ fn put_copy(out: &mut [u16], at: usize, d: u16, a: u16) -> usize
     put_write_back(out, loaded, 3, d)
 }
 
-// Whether an opcode looks up a table,
+// Whether an opcode looks up a table.
 fn has_table(o: Opcode) -> bool
     ensures { λ r. ⌜ r ≡ hasTable o ⌝ }
 {
@@ -216,7 +218,7 @@ fn has_table(o: Opcode) -> bool
     }
 }
 
-// and where that begins, counted from cell 256.
+// Where that table begins, counted from cell 256; 0 for an opcode that has none.
 fn table_of(layout: Layout, o: Opcode) -> u8
     ensures { λ r. ⌜ r ≡ tableOf layout o ⌝ }
 {
@@ -259,7 +261,7 @@ fn put_unary(out: &mut [u16], at: usize, layout: Layout, o: Opcode, d: u16, a: u
     }
 }
 
-// The macro of an opcode. The lookup is called in one place, so that the compiler joins it to the loop over the lines.
+// The macro of an opcode. The lookup is called in one place, so that the compiler inlines it into the loop over the lines.
 pub fn put_macro(
     out: &mut [u16],
     at: usize,
@@ -302,7 +304,8 @@ fn lookup_size(layout: Layout, a: u16, b: u16) -> u16
     load_size(a) + scale_size(layout) + load_size(b) + 6
 }
 
-// The lines of an opcode's macro with these arguments, whatever its destination is.
+// The lines of an opcode's macro with these arguments, whatever its destination is: of not a load, the flip and two lines to write back, of
+// mov a load and those two.
 fn macro_size(layout: Layout, o: Opcode, a: u16, b: u16) -> u16
     ensures { λ r. ⌜ ((d : Operand) → r ≡ length (macro layout o d (operandOf a) (operandOf b))) ⌝ }
 {

@@ -15,7 +15,7 @@ use model::Kind;
 use model::Layout;
 use model::STATE_SIZE;
 
-// The tables of codes: entry 4 * code(a) + code(b) is the code of a op b, and the twelve other entries are 0.
+// The tables of codes of `neighbours`: entry 4 * code(a) + code(b) is the code of a op b, and the twelve other entries are 0.
 const AND: [u8; 16] = [0, 0, 0, 0, 0, 1, 2, 0, 0, 2, 2, 0, 0, 0, 0, 0];
 
 const ORR: [u8; 16] = [0, 0, 0, 0, 0, 1, 1, 0, 0, 1, 2, 0, 0, 0, 0, 0];

@@ -30,7 +30,7 @@ placeOf o s = record { at = place o s; weight = weight (address o s) }
 abbrev pub fetchOf : Operand → State → Fetched
 fetchOf o s = record { at = place o s; value = value o s; weight = weight (address o s) }
 
--- what a line of that mark reads of a byte at place i: the byte itself, the mark and the place change nothing here
+-- what a line of that mark reads of a byte at place i: the byte itself; neither the mark nor the place changes it
 abbrev pub readAs : Mark → ℕ → ℕ → ℕ
 readAs m i x = x
 

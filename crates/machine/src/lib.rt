@@ -218,7 +218,7 @@ struct Arguments {
     second: u8,
 }
 
-// What a line of that mark makes of what was fetched: the value of each, the mark and the places change nothing here.
+// What a line of that mark makes of what was fetched: the value of each; neither the mark nor the place changes it.
 fn read_arguments(mark: Mark, x: Fetched, y: Fetched) -> Arguments
     ensures { λ r. ⌜ r ≡ argumentsOf mark x y ⌝ }
 {

@@ -35,7 +35,7 @@ use Rattle.model.proofs.Acceptance.{mk, AllRight, accepted-right, line-
 use Rattle.model.proofs.Pieces.{held}
 use Rattle.model.proofs.ImageLaws.{zeros, rails}
 use Rattle.model.proofs.MarkedLines.{Weights, weights, Related, shown-same, next-marked, marked-destination}
-use Rattle.model.proofs.Lengths.{macro-size}
+use Rattle.model.proofs.Lengths.{macro-bounds}
 use Rattle.model.proofs.UnmarkedLines.{row-same, next-same, after-same}
 use Rattle.model.proofs.Simulation.{lineRows, lineWeights, allRows, span-none, span-some, rows-none, rows-some, Simulated, simulate}
 
@@ -132,7 +132,7 @@ size-by : (L : Layout) (n : ℕ) (m : Mark) (op : Opcode) (d a b : Operand) (g :
 unfolding size partOf
 size-by L n Unmarked op d a b g c = omega arith
 size-by L n Marked op d a b g c =
-    let m = macro-size L op d (coded L a) (coded L b) in
+    let m = macro-bounds L op d (coded L a) (coded L b) in
     (m .0 (marked-operands n op d a b g (c .0) (c .1) .able), m .1)
 
 size-of : (L : Layout) (p : List Line) (n : ℕ) → AllRight n p → (k : ℕ) (l : Line) → getElem? p k ≡ some l → (1 ≤ size L l) × (size L l ≤ longest)

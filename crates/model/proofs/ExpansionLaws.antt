@@ -1,4 +1,4 @@
--- What the expansion of an accepted program is: correct lines, at most 13 for each source line, whose targets are in it, and a stored
+-- What the expansion of an accepted program is: correct lines, at most `longest` for each source line, whose targets are in it, and a stored
 -- program again. Piece by piece, then by induction over the program. Assumes nothing.
 use mathlib.Core.Path.{_≡_, refl, sym, ap, ap₂, _∙_}
 use mathlib.Core.Bool.{Bool, true, false, not, _&&_}
@@ -28,7 +28,7 @@ use Rattle.model.specs.Expansion.{coded, move, load, shifts, scale, comb
 use Rattle.model.specs.Marks.{isAbove, holds16, markFault, marksOf, markCheck, Accepted}
 use Rattle.model.proofs.TestLaws.{and-both, both-and}
 use Rattle.model.proofs.Finite.{code-low, mask-low, table-low}
-use Rattle.model.proofs.Lengths.{macro-size}
+use Rattle.model.proofs.Lengths.{macro-bounds}
 use Rattle.model.proofs.Parts.{joined-length}
 use Rattle.model.proofs.Acceptance.{clear, AllRight, marks-right, accepted-right}
 use Rattle.model.proofs.StoredLaws.{CheckAnswer, accepts, refuses, check-answer, program-checked, never-counted, length-lines, whole-lines, whole-check, correct-fields}
@@ -52,7 +52,7 @@ size-most L l = go (l .mark)
   where
     go : (m : Mark) → length (partOf L m (λ t. t) l) ≤ longest
     go Unmarked = omega arith
-    go Marked = macro-size L (l .opcode) (l .destination) (coded L (l .first)) (coded L (l .second)) .1
+    go Marked = macro-bounds L (l .opcode) (l .destination) (coded L (l .first)) (coded L (l .second)) .1
 
 pub start-bound : (L : Layout) (p : List Line) (i : ℕ) → start L p i ≤ longest * length p
 unfolding start
@@ -90,7 +90,7 @@ load-correct : (n : ℕ) (a : Operand) → T (ltb n 32) → T (operandRight true
 unfolding load operandRight isLiteral
 load-correct n a hn ha = (move-correct (Register n) (Register 0) hn tt tt, (move-correct (Register n) a hn tt ha, tt))
 
--- a line that masks with both bits of a code
+-- the mask is a right literal
 mask-right : (L : Layout) → Known L → T (leb (L .mask) 255 && true)
 mask-right L K = both-and (leb (L .mask) 255) true (le→leb (L .mask) 255 (omega (arith, mask-low L K))) tt
 

@@ -16,7 +16,7 @@ use Rattle.model.specs.Limits.{longest}
 use Rattle.model.specs.Code.{andTable, orrTable, xorTable}
 use Rattle.model.specs.Marks.{hasMacro}
 use Rattle.model.specs.Expansion.{load, shifts, scale, combine, fetch, flip, writeBack, lookup, negate, copy, macro}
-use Rattle.model.proofs.Loads.{load-size}
+use Rattle.model.proofs.Loads.{load-bounds}
 
 pub lookup-pieces : (L : Layout) (t : ℕ) (d a b : Operand)
     → length (lookup L t d a b) ≡ length (load 1 a) + (length (scale L) + (length (load 2 b) + (length (combine L) + (length (fetch t) + length (writeBack 3 d)))))
@@ -45,8 +45,8 @@ pub scale-near : (L : Layout) → L .spaced ≡ false → length (scale L) ≡ 3
 unfolding scale shifts
 scale-near L e = rw e
 
-pub scale-size : (L : Layout) → (2 ≤ length (scale L)) × (length (scale L) ≤ 3)
-scale-size L = go (L .spaced) refl
+pub scale-bounds : (L : Layout) → (2 ≤ length (scale L)) × (length (scale L) ≤ 3)
+scale-bounds L = go (L .spaced) refl
   where
     go : (c : Bool) → L .spaced ≡ c → (2 ≤ length (scale L)) × (length (scale L) ≤ 3)
     go true e = omega (arith, scale-spaced L e)
@@ -55,31 +55,31 @@ scale-size L = go (L .spaced) refl
 -- ---- the bounds
 
 module _ (L : Layout) where
-  lookup-most : (t : ℕ) (d a b : Operand) → (1 ≤ length (lookup L t d a b)) × (length (lookup L t d a b) ≤ longest)
+  lookup-bounds : (t : ℕ) (d a b : Operand) → (1 ≤ length (lookup L t d a b)) × (length (lookup L t d a b) ≤ longest)
   unfolding combine fetch writeBack
-  lookup-most t d a b = rw lookup-pieces (omega (arith, load-size 1 a, scale-size L, load-size 2 b))
+  lookup-bounds t d a b = rw lookup-pieces (omega (arith, load-bounds 1 a, scale-bounds L, load-bounds 2 b))
 
-  negate-most : (d a : Operand) → (1 ≤ length (negate L d a)) × (length (negate L d a) ≤ longest)
+  negate-bounds : (d a : Operand) → (1 ≤ length (negate L d a)) × (length (negate L d a) ≤ longest)
   unfolding flip writeBack
-  negate-most d a = rw negate-pieces (omega (arith, load-size 1 a))
+  negate-bounds d a = rw negate-pieces (omega (arith, load-bounds 1 a))
 
-  copy-most : (d a : Operand) → (1 ≤ length (copy d a)) × (length (copy d a) ≤ longest)
+  copy-bounds : (d a : Operand) → (1 ≤ length (copy d a)) × (length (copy d a) ≤ longest)
   unfolding writeBack
-  copy-most d a = rw copy-pieces (omega (arith, load-size 3 a))
+  copy-bounds d a = rw copy-pieces (omega (arith, load-bounds 3 a))
 
   -- a macro has at most `longest` lines, and one that a marked line may have has some
-  pub macro-size : (op : Opcode) (d a b : Operand) → (T (hasMacro op) → 1 ≤ length (macro L op d a b)) × (length (macro L op d a b) ≤ longest)
+  pub macro-bounds : (op : Opcode) (d a b : Operand) → (T (hasMacro op) → 1 ≤ length (macro L op d a b)) × (length (macro L op d a b) ≤ longest)
   unfolding macro hasMacro
-  macro-size Nop d a b = ((λ h. absurd h), omega arith)
-  macro-size Jmp d a b = ((λ h. absurd h), omega arith)
-  macro-size Not d a b = ((λ h. negate-most d a .0), negate-most d a .1)
-  macro-size Mov d a b = ((λ h. copy-most d a .0), copy-most d a .1)
-  macro-size And d a b = ((λ h. lookup-most (andTable L) d a b .0), lookup-most (andTable L) d a b .1)
-  macro-size Orr d a b = ((λ h. lookup-most (orrTable L) d a b .0), lookup-most (orrTable L) d a b .1)
-  macro-size Xor d a b = ((λ h. lookup-most (xorTable L) d a b .0), lookup-most (xorTable L) d a b .1)
-  macro-size Lsl d a b = ((λ h. absurd h), omega arith)
-  macro-size Lsr d a b = ((λ h. absurd h), omega arith)
-  macro-size Add d a b = ((λ h. absurd h), omega arith)
-  macro-size Mul d a b = ((λ h. absurd h), omega arith)
-  macro-size Beq d a b = ((λ h. absurd h), omega arith)
-  macro-size Bne d a b = ((λ h. absurd h), omega arith)
+  macro-bounds Nop d a b = ((λ h. absurd h), omega arith)
+  macro-bounds Jmp d a b = ((λ h. absurd h), omega arith)
+  macro-bounds Not d a b = ((λ h. negate-bounds d a .0), negate-bounds d a .1)
+  macro-bounds Mov d a b = ((λ h. copy-bounds d a .0), copy-bounds d a .1)
+  macro-bounds And d a b = ((λ h. lookup-bounds (andTable L) d a b .0), lookup-bounds (andTable L) d a b .1)
+  macro-bounds Orr d a b = ((λ h. lookup-bounds (orrTable L) d a b .0), lookup-bounds (orrTable L) d a b .1)
+  macro-bounds Xor d a b = ((λ h. lookup-bounds (xorTable L) d a b .0), lookup-bounds (xorTable L) d a b .1)
+  macro-bounds Lsl d a b = ((λ h. absurd h), omega arith)
+  macro-bounds Lsr d a b = ((λ h. absurd h), omega arith)
+  macro-bounds Add d a b = ((λ h. absurd h), omega arith)
+  macro-bounds Mul d a b = ((λ h. absurd h), omega arith)
+  macro-bounds Beq d a b = ((λ h. absurd h), omega arith)
+  macro-bounds Bne d a b = ((λ h. absurd h), omega arith)

@@ -74,9 +74,9 @@ pub load-same : (s t : State) → SamePublic s t → (a : Operand) → Sensitive
 unfolding loadShown
 load-same s t h a g k x = rw (address-same s t h a (steady-argument a g))
 
-pub load-size : (n : ℕ) (a : Operand) → (1 ≤ length (load n a)) × (length (load n a) ≤ 2)
+pub load-bounds : (n : ℕ) (a : Operand) → (1 ≤ length (load n a)) × (length (load n a) ≤ 2)
 unfolding load
-load-size n a = omega arith
+load-bounds n a = omega arith
 
 pub load-straight : (n : ℕ) (a : Operand) → Straight (load n a)
 unfolding load next taken

@@ -15,7 +15,7 @@ unfoldable pub code : Layout → ℕ → ℕ
 code L zero = L .zero
 code L (suc n) = L .one
 
--- a table's index of two codes: the first is shifted past the second, by two bits; spaced bits need one, to stand in between
+-- a table's index of two codes: 4 × the first and the second, or 2 × the first where the bits are spaced, which those of `neighbours` are not
 abbrev pub index : Layout → ℕ → ℕ → ℕ
 index L a b = cond (L .spaced) 2 4 * a + b
 
@@ -29,7 +29,7 @@ entry L op i =
     (cond (eqb i (index L (code L 1) (code L 1))) (code L (alu Marked op 1 1))
     0)))
 
--- where the three tables begin, counted from cell 256; each is as long as the first
+-- where the three tables begin, counted from cell 256
 abbrev pub andTable : Layout → ℕ
 andTable L = 0
 
@@ -39,11 +39,15 @@ orrTable L = L .orr
 abbrev pub xorTable : Layout → ℕ
 xorTable L = L .xor
 
+-- the cells of a table: all three are as long as the first, which ends where the second begins
+abbrev pub tableSize : Layout → ℕ
+tableSize L = L .orr
+
 -- what the table page holds at i, counted from cell 256
 unfoldable pub page : Layout → ℕ → ℕ
 unfolding entry
 page L i =
     cond (ltb i (orrTable L)) (entry L And (i - andTable L))
     (cond (ltb i (xorTable L)) (entry L Orr (i - orrTable L))
-    (cond (ltb i (xorTable L + orrTable L)) (entry L Xor (i - xorTable L))
+    (cond (ltb i (xorTable L + tableSize L)) (entry L Xor (i - xorTable L))
     0))

@@ -49,7 +49,7 @@ precharged d a = move d (Register 0) ∷ move d a ∷ []
 unfoldable pub load : ℕ → Operand → List Line
 load n a = precharged (Register n) a
 
--- the first code shifted to its place in the index
+-- the first code shifted to its place in the index: by two bits, or by one where the bits are spaced
 unfoldable pub shifts : Bool → List Line
 shifts false = markedLine Lsl (Register 1) (Register 1) (Literal 1) ∷ markedLine Lsl (Register 1) (Register 1) (Literal 1) ∷ []
 shifts true = markedLine Lsl (Register 1) (Register 1) (Literal 1) ∷ []
@@ -157,10 +157,11 @@ written ls out =
     (outcome (refused 17 0) (out ∷ []))
     (outcome (counted (length ls)) (atFront (flatMap codes ls) out ∷ []))
 
--- the mark check, then 17 fewer lines than the expansion has
+-- in any layout: the mark check, then 17 fewer lines than the expansion has
 unfoldable pub expansionIn : Layout → List ℕ → List ℕ → Outcome
 unfolding markCheck expand written
 expansionIn L p out = unlessRefused (markCheck p) (out ∷ []) (written (expand L (lines p)) out)
 
+-- in the layout of document 01
 abbrev pub expandOutcome : List ℕ → List ℕ → Outcome
 expandOutcome p out = expansionIn neighbours p out

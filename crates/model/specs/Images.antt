@@ -90,12 +90,14 @@ carried right over from into =
     (outcome (refused 18 0) (into ∷ [])))
     (outcome (refused 18 0) (into ∷ []))
 
+-- in any layout
 abbrev pub imageIn : Layout → State → State → Outcome
 imageIn L bits image′ = carried bitRight (image L) bits image′
 
 abbrev pub bitsIn : Layout → State → State → Outcome
 bitsIn L image′ bits = carried (imageRight L) (back L) image′ bits
 
+-- in the layout of document 01
 abbrev pub toImageOutcome : State → State → Outcome
 toImageOutcome bits image′ = imageIn neighbours bits image′
 

@@ -1,4 +1,4 @@
--- `images::bit_of` meets its contract. By whether the byte is 1. Assumes nothing.
+-- `images::bit_of` meets its contract. By whether the byte is the code of 1. Assumes nothing.
 use Rattle.model.specs.Code.{code}
 use Rattle.coding.proofs.Tests.{tests}
 use Rattle.images.proofs.bit_of.Statement.{statement}

@@ -2,8 +2,8 @@
 use native.Mathlib.Omega.{arith}
 use Rattle.model.specs.Stored.{operandOf}
 use Rattle.model.specs.Expansion.{combine, fetch, writeBack}
-use Rattle.model.proofs.Loads.{load-size}
-use Rattle.model.proofs.Lengths.{scale-size, lookup-pieces}
+use Rattle.model.proofs.Loads.{load-bounds}
+use Rattle.model.proofs.Lengths.{scale-bounds, lookup-pieces}
 use borrow.Author.Needs.{needs}
 use Rattle.expander.proofs.macros.lookup_size.Statement.{statement}
 use Rattle.expander.proofs.macros.lookup_size.Tie as tie
@@ -19,7 +19,7 @@ add-result c =
     let z = c in
     let f = z .before in
     let s = f .before in
-    record { fits = omega (arith, load-size 1 (operandOf (s .args .a)), f .load-size .ensures 1, scale-size (s .args .layout), z .scale-size .ensures) }
+    record { fits = omega (arith, load-bounds 1 (operandOf (s .args .a)), f .load-size .ensures 1, scale-bounds (s .args .layout), z .scale-size .ensures) }
 
 load-size-requires-2 : tie.Need-load-size-requires-2
 load-size-requires-2 c κs = search needs
@@ -29,14 +29,14 @@ add-result-2 c =
     let z = c .before in
     let f = z .before in
     let s = f .before in
-    record { fits = omega (arith, load-size 1 (operandOf (s .args .a)), f .load-size .ensures 1, scale-size (s .args .layout), z .scale-size .ensures, load-size 2 (operandOf (s .args .b)), c .load-size2 .ensures 2) }
+    record { fits = omega (arith, load-bounds 1 (operandOf (s .args .a)), f .load-size .ensures 1, scale-bounds (s .args .layout), z .scale-size .ensures, load-bounds 2 (operandOf (s .args .b)), c .load-size2 .ensures 2) }
 
 add-result-3 : tie.Need-add-result-3
 add-result-3 c =
     let z = c .before in
     let f = z .before in
     let s = f .before in
-    record { fits = omega (arith, load-size 1 (operandOf (s .args .a)), f .load-size .ensures 1, scale-size (s .args .layout), z .scale-size .ensures, load-size 2 (operandOf (s .args .b)), c .load-size2 .ensures 2) }
+    record { fits = omega (arith, load-bounds 1 (operandOf (s .args .a)), f .load-size .ensures 1, scale-bounds (s .args .layout), z .scale-size .ensures, load-bounds 2 (operandOf (s .args .b)), c .load-size2 .ensures 2) }
 
 returns : tie.Need-returns
 unfolding combine fetch writeBack

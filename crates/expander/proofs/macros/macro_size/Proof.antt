@@ -4,7 +4,7 @@ use native.Mathlib.Omega.{arith}
 use Rattle.model.specs.declared.Opcode.the-variants.{Nop, Jmp, Not, Mov, And, Orr, Xor, Lsl, Lsr, Add, Mul, Beq, Bne}
 use Rattle.model.specs.Stored.{operandOf}
 use Rattle.model.specs.Expansion.{macro, flip, writeBack}
-use Rattle.model.proofs.Loads.{load-size}
+use Rattle.model.proofs.Loads.{load-bounds}
 use Rattle.model.proofs.Lengths.{negate-pieces, copy-pieces}
 use Rattle.expander.proofs.PartSizes.{at-opcode}
 use borrow.Author.Needs.{needs}
@@ -24,7 +24,7 @@ load-size-requires : tie.Need-load-size-requires
 load-size-requires c κs = search needs
 
 add-result : tie.Need-add-result
-add-result c = record { fits = omega (arith, load-size 1 (operandOf (c .before .before .before .args .a)), c .load-size .ensures 1) }
+add-result c = record { fits = omega (arith, load-bounds 1 (operandOf (c .before .before .before .args .a)), c .load-size .ensures 1) }
 
 enum-told-4 : tie.Need-enum-told-4
 enum-told-4 c = search needs
@@ -33,7 +33,7 @@ load-size-requires-2 : tie.Need-load-size-requires-2
 load-size-requires-2 c κs = search needs
 
 add-result-2 : tie.Need-add-result-2
-add-result-2 c = record { fits = omega (arith, load-size 3 (operandOf (c .before .before .before .args .a)), c .load-size2 .ensures 3) }
+add-result-2 c = record { fits = omega (arith, load-bounds 3 (operandOf (c .before .before .before .args .a)), c .load-size2 .ensures 3) }
 
 enum-told-5 : tie.Need-enum-told-5
 enum-told-5 c = search needs

@@ -5,9 +5,6 @@ use borrow.Author.Needs.{needs}
 use Rattle.expander.proofs.macros.put_fetch.Statement.{statement}
 use Rattle.expander.proofs.macros.put_fetch.Tie as tie
 
-add-put-precharged : tie.Need-add-put-precharged
-add-put-precharged c = search needs
-
 table-cell-requires : tie.Need-table-cell-requires
 table-cell-requires c κs = search needs
 
@@ -24,4 +21,4 @@ returns c = fetch-wrote _ _ (c .before .before .before .table-cell .ensures) (c 
 pub put-fetch-spec : {M : Type 1} → statement M
 put-fetch-spec =
     tie.close
-    (tie.spec add-put-precharged table-cell-requires put-precharged-requires same-length returns)
+    (tie.spec table-cell-requires put-precharged-requires same-length returns)

@@ -1,6 +1,6 @@
 -- `expander::macros::put_scale` meets its contract. Its lines, one after the other, by whether the bits are spaced. Assumes nothing.
 use native.Mathlib.Omega.{arith}
-use Rattle.model.proofs.Lengths.{scale-size, scale-near}
+use Rattle.model.proofs.Lengths.{scale-bounds, scale-near}
 use Rattle.expander.proofs.PieceWrites.{spaced-wrote, near-wrote}
 use borrow.Author.Needs.{needs}
 use Rattle.expander.proofs.macros.put_scale.Statement.{statement}
@@ -10,10 +10,10 @@ literal-requires : tie.Need-literal-requires
 literal-requires c κs = search needs
 
 put-marked-requires : tie.Need-put-marked-requires
-put-marked-requires c κs = omega (arith, scale-size (c .before .before .before .args .layout))
+put-marked-requires c κs = omega (arith, scale-bounds (c .before .before .before .args .layout))
 
 put-marked-requires-2 : tie.Need-put-marked-requires-2
-put-marked-requires-2 c κs = omega (arith, scale-size (c .before .before .before .before .before .before .before .args .layout))
+put-marked-requires-2 c κs = omega (arith, scale-bounds (c .before .before .before .before .before .before .before .args .layout))
 
 same-length : tie.Need-same-length
 same-length c = search needs
