@@ -104,8 +104,8 @@ fn put_precharged(out: &mut [u16], at: usize, d: u16, a: u16) -> usize
     requires { ⌜ 6 * (at + 2) ≤ length (now out) ⌝ }
     ensures { λ r. ⌜ Wrote (now (out .entry)) (now (out .exit)) at r (precharged (operandOf d) (operandOf a)) ⌝ }
 {
-    let k = put_move(out, at, d, R0);
-    put_move(out, k, d, a)
+    let cleared = put_move(out, at, d, R0);
+    put_move(out, cleared, d, a)
 }
 
 // Register n precharged and loaded.
@@ -282,7 +282,7 @@ pub fn put_macro(
 
 // ---- how long a part is
 
-// The lines that load an argument.
+// The lines that load an argument: two, whatever it is.
 fn load_size(a: u16) -> u16
     ensures { λ r. ⌜ ((n : ℕ) → r ≡ length (load n (operandOf a))) ⌝ }
 {
@@ -304,8 +304,8 @@ fn lookup_size(layout: Layout, a: u16, b: u16) -> u16
     load_size(a) + scale_size(layout) + load_size(b) + 6
 }
 
-// The lines of an opcode's macro with these arguments, whatever its destination is: of not a load, the flip and two lines to write back, of
-// mov a load and those two.
+// The lines of an opcode's macro with these arguments, whatever its destination is: of not a load, the flip and two to write back, of mov
+// a load and those two.
 fn macro_size(layout: Layout, o: Opcode, a: u16, b: u16) -> u16
     ensures { λ r. ⌜ ((d : Operand) → r ≡ length (macro layout o d (operandOf a) (operandOf b))) ⌝ }
 {
