@@ -84,8 +84,8 @@ put-put out k a b h =
 pub wrote-none : (out : List ℕ) (at : ℕ) → 6 * at ≤ length out → Wrote out out at at []
 wrote-none out at h = record { ends = omega arith; fits = h; long = refl; holds = sym (put-none out at) }
 
-pub wrote-one : {out o : List ℕ} {at : ℕ} {l : Line} → 6 * (at + 1) ≤ length out → o ≡ put out at (l ∷ []) → Wrote out o at (at + 1) (l ∷ [])
-wrote-one {out} {o} {at} {l} h e = record { ends = omega arith; fits = h; long = ap length e ∙ put-length out at (l ∷ []) h; holds = e }
+pub wrote-one : {out o : List ℕ} {at n : ℕ} {l : Line} → n ≡ at + 1 → 6 * (at + 1) ≤ length out → o ≡ put out at (l ∷ []) → Wrote out o at n (l ∷ [])
+wrote-one {out} {o} {at} {n} {l} q h e = record { ends = omega arith; fits = omega arith; long = ap length e ∙ put-length out at (l ∷ []) h; holds = e }
 
 -- some lines after others
 pub wrote-then : {out o o′ : List ℕ} {k n m : ℕ} {a b : List Line} → Wrote out o k n a → Wrote o o′ n m b → Wrote out o′ k m (a ++ b)

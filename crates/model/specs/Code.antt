@@ -15,7 +15,7 @@ unfoldable pub code : Layout → ℕ → ℕ
 code L zero = L .zero
 code L (suc n) = L .one
 
--- a table's index of two codes: 4 × the first and the second, or 2 × the first where the bits are spaced, which those of `neighbours` are not
+-- a table's index of two codes: 4 × the first + the second; 2 × the first + the second where the bits are spaced, which no layout yet is
 abbrev pub index : Layout → ℕ → ℕ → ℕ
 index L a b = cond (L .spaced) 2 4 * a + b
 

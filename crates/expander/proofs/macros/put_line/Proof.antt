@@ -76,7 +76,7 @@ same-length c = search needs
 returns : tie.Need-returns
 returns c = λ y e.
     let s = c .before .before .before in
-    wrote-one (s .pre)
+    wrote-one (omega arith) (s .pre)
     (one-line _ (s .args .at) _ _ (s .args .d) (s .args .a) (s .args .b) (s .args .t) _
     (rw (c .before .mark-code .ensures, c .opcode-code .ensures)
     (line-stored (s .args .m) (s .args .o) _ _ _ _ y (search needs) (search needs) (search needs) e)) (s .pre))
