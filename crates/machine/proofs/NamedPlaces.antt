@@ -1,6 +1,6 @@
 -- Which operands name no place, that the others read theirs, and what a line makes of what is read.
 -- Assumes nothing.
-use mathlib.Core.Path.{_≡_, refl}
+use mathlib.Core.Path.{_≡_, refl, sym}
 use Prim.Native.Nat.{ℕ, _<_, _≤_}
 use native.Mathlib.Omega.{arith}
 use lib.ListN.{getD}
@@ -11,7 +11,9 @@ use Rattle.model.specs.Places.{State, place, address, value}
 use Rattle.model.specs.Step.{argument}
 use Rattle.model.specs.Stored.{registers, operandOf}
 use Rattle.model.proofs.Forms.{by-form, low-form}
-use Rattle.machine.specs.Loop.{readAs}
+use Rattle.machine.specs.declared.Arguments.{Arguments}
+use Rattle.machine.specs.declared.Fetched.{Fetched}
+use Rattle.machine.specs.Loop.{fetchOf, readAs, argumentsOf}
 
 -- an empty field and a literal name no place
 module _ (n : ℕ) (s : State) (h : n < registers) where
@@ -31,6 +33,11 @@ reads-place s n h =
     (λ g l. refl) (λ g l. refl) (λ g. refl)
 
 -- an argument is what a line of that mark makes of its operand's place and value
-pub argument-read : (m : Mark) (o : Operand) (s : State) → argument m o s ≡ readAs m (place o s) (value o s)
+argument-read : (m : Mark) (o : Operand) (s : State) → argument m o s ≡ readAs m (place o s) (value o s)
 unfolding argument
 argument-read m o s = refl
+
+-- what was fetched of two operands, as a line of that mark reads it, is its arguments
+pub arguments-read : (m : Mark) (a b : Operand) (s : State) (x y : Fetched) (z : Arguments) → x ≡ fetchOf a s → y ≡ fetchOf b s → z ≡ argumentsOf m x y
+    → (z .first ≡ argument m a s) × (z .second ≡ argument m b s)
+arguments-read m a b s x y z ex ey ez = rw (ez, ex, ey) (sym (argument-read m a s), sym (argument-read m b s))

@@ -12,8 +12,9 @@ use Rattle.model.specs.Limits.{rowWidth}
 use Rattle.model.specs.Answers.{halted, spent, Outcome, outcome}
 use Rattle.model.specs.Places.{State, address, place, value}
 use Rattle.model.specs.Stored.{lineAt}
-use Rattle.model.specs.Step.{weight, distance, Row, next, after, row}
+use Rattle.model.specs.Step.{weight, distance, Row, result, next, after, row}
 use Rattle.machine.specs.declared.Arguments.{Arguments}
+use Rattle.machine.specs.declared.Effect.{Effect}
 use Rattle.machine.specs.declared.Fetched.{Fetched}
 use Rattle.machine.specs.declared.Place.{Place}
 use Rattle.machine.specs.declared.steps.Run.{Run}
@@ -41,6 +42,10 @@ argumentsOf m x y = record { first = readAs m (x .at) (x .value); second = readA
 -- the row of line k, from the old value, the result and the addresses' weights
 abbrev pub rowOf : ℕ → ℕ → ℕ → ℕ → ℕ → ℕ → Row
 rowOf k old result first second destination = k ∷ weight result ∷ distance old result ∷ first ∷ second ∷ destination ∷ []
+
+-- what a line does on a state
+abbrev pub effectOf : Line → ℕ → State → Effect
+effectOf l k s = record { result = result l s; place = place (l .destination) s; row = row l k s }
 
 -- a trace store with row n replaced
 abbrev pub putRow : List ℕ → ℕ → Row → List ℕ

@@ -10,8 +10,9 @@ ghost use Rattle.model.specs.Limits.{maxLines, rowWidth};
 ghost use Rattle.model.specs.Answers.{report, outcome};
 ghost use Rattle.model.specs.Stored.{registers, operandOf, targetOf, lineOf};
 ghost use Rattle.model.specs.Step.{weight, distance, shiftBy, negated, alu, taken, targetLine, next, after, row};
+ghost use Rattle.model.specs.Places.{place};
 ghost use Rattle.model.specs.Run.{runOutcome};
-ghost use Rattle.machine.specs.Loop.{cellPlace, placeOf, fetchOf, argumentsOf, rowOf, putRow, machine, runFrom};
+ghost use Rattle.machine.specs.Loop.{cellPlace, placeOf, fetchOf, argumentsOf, rowOf, effectOf, putRow, machine, runFrom};
 use model::Answer;
 use model::Mark;
 use model::Opcode;
@@ -29,7 +30,7 @@ fn weight(n: u16) -> u16
 }
 
 // The Hamming distance.
-fn distance(x: u8, y: u8) -> u16
+pub fn distance(x: u8, y: u8) -> u16
     ensures { λ r. ⌜ r ≡ distance x y ⌝ }
 {
     u8::count_ones(x ^ y) as u16
@@ -125,7 +126,7 @@ fn read(state: &[u8], at: usize) -> u8
 }
 
 // A byte at a place; past the end nothing is written.
-fn write(state: &mut [u8], at: usize, byte: u8)
+pub fn write(state: &mut [u8], at: usize, byte: u8)
     ensures { λ r. ⌜ now (state .exit) ≡ set (now (state .entry)) at byte ⌝ }
 {
     if at < state.len() {
@@ -277,6 +278,55 @@ fn row_of(
         second,
         destination,
     ]
+}
+
+// What a line does on a state: the value that it writes, the place, past the state where there is none, and the row.
+pub struct Effect {
+    pub result: u8,
+    pub place: usize,
+    pub row: [u16; ROW_WIDTH],
+}
+
+// The effect of a line, whatever its target; nothing is written. `perform` below does not call it: a run would be twice as slow.
+pub fn effect_of(m: u16, o: u16, d: u16, a: u16, b: u16, counter: u16, state: &[u8]) -> Effect
+    ensures { λ r. ⌜ r ≡ effectOf (lineOf m o d a b 0) counter (now (state .entry)) ⌝ }
+{
+    let mark = coding::mark_of(m);
+    let opcode = coding::opcode_of(o);
+    let x = fetch(a, state);
+    let y = fetch(b, state);
+    let args = read_arguments(mark, x, y);
+    let result = alu(mark, opcode, args.first, args.second);
+    let place = destination(d, state);
+    let at = place.at;
+    let old = read(state, at);
+    let row = row_of(counter, old, result, x.weight, y.weight, place.weight);
+    Effect {
+        result,
+        place: at,
+        row,
+    }
+}
+
+// The counter after a line, whatever its destination.
+pub fn next_of(m: u16, o: u16, a: u16, b: u16, t: u16, counter: u16, state: &[u8]) -> u16
+    requires { ⌜ counter < 65535 ⌝ }
+    ensures { λ r. ⌜ r ≡ next (lineOf m o 0 a b t) counter (now (state .entry)) ⌝ }
+{
+    let mark = coding::mark_of(m);
+    let opcode = coding::opcode_of(o);
+    let x = fetch(a, state);
+    let y = fetch(b, state);
+    let args = read_arguments(mark, x, y);
+    let jumps = is_taken(opcode, args.first, args.second);
+    advanced(jumps, target_line(t), counter)
+}
+
+// The place that an operand's number names, past the state where it names none.
+pub fn place_at(code: u16, state: &[u8]) -> usize
+    ensures { λ r. ⌜ r ≡ place (operandOf code) (now (state .entry)) ⌝ }
+{
+    destination(code, state).at
 }
 
 // What a step answers: the next counter, and its trace row.

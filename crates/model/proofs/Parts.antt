@@ -23,14 +23,15 @@ part-size L f l = go (l .mark)
     go Unmarked = refl
     go Marked = refl
 
+pub start-zero : (L : Layout) (p : List Line) → start L p zero ≡ zero
+unfolding start
+start-zero L [] = refl
+start-zero L (l ∷ p) = refl
+
 pub start-suc : (L : Layout) (p : List Line) (k : ℕ) (l : Line) → getElem? p k ≡ some l → start L p (suc k) ≡ start L p k + size L l
 unfolding start
 start-suc L [] k l e = cc
-start-suc L (x ∷ p) zero l e = let q : x ≡ l = cc in rw q (start-zero p)
-  where
-    start-zero : (p : List Line) → size L l + start L p zero ≡ zero + size L l
-    start-zero [] = omega arith
-    start-zero (y ∷ p) = omega arith
+start-suc L (x ∷ p) zero l e = let q : x ≡ l = cc in rw (q, start-zero L p) (omega arith)
 start-suc L (x ∷ p) (suc k) l e = ap (λ (n : ℕ). size L x + n) (start-suc L p k l e) ∙ sym (add-assoc (size L x) (start L p k) (size L l))
 
 drop-more : (xs ys : List Line) (n m : ℕ) → length xs ≡ n → drop (n + m) (xs ++ ys) ≡ drop m ys
@@ -40,11 +41,9 @@ pub part-at : (L : Layout) (f : ℕ → ℕ) (p : List Line) (k : ℕ) (l : Line
     → drop (start L p k) (joined L f p) ≡ part L f l ++ drop (start L p (suc k)) (joined L f p)
 unfolding start joined
 part-at L f [] k l e = cc
-part-at L f (x ∷ p) zero l e = let q : x ≡ l = cc in rw q (ap (λ (r : List Line). part L f l ++ r) (sym (seam p)))
-  where
-    seam : (p : List Line) → drop (size L l + start L p zero) (part L f l ++ joined L f p) ≡ joined L f p
-    seam [] = drop-more (part L f l) [] (size L l) zero (part-size L f l)
-    seam (y ∷ p) = drop-more (part L f l) (joined L f (y ∷ p)) (size L l) zero (part-size L f l)
+part-at L f (x ∷ p) zero l e =
+    let q : x ≡ l = cc in
+    rw (q, start-zero L p) (ap (λ (r : List Line). part L f l ++ r) (sym (drop-more (part L f l) (joined L f p) (size L l) zero (part-size L f l))))
 part-at L f (x ∷ p) (suc k) l e =
     drop-more (part L f x) (joined L f p) (size L x) (start L p k) (part-size L f x)
     ∙ part-at L f p k l e

@@ -27,7 +27,7 @@ use Rattle.model.specs.Marks.{markFault}
 use Rattle.model.specs.Claims.{span}
 use Rattle.model.proofs.Runs.{ran, stopped, step-run, run-zero, run-add, joinRuns}
 use Rattle.model.proofs.Straight.{exec-at, exec-rows, drop-head, run-straight}
-use Rattle.model.proofs.Parts.{part-at, start-suc}
+use Rattle.model.proofs.Parts.{part-at, start-zero, start-suc}
 use Rattle.model.proofs.Acceptance.{mk, AllRight, line-at, Plain, plain, MarkedOperands, marked-operands}
 use Rattle.model.proofs.Pieces.{held}
 use Rattle.model.proofs.ImageLaws.{zeros, rails, same-held}
@@ -72,12 +72,11 @@ line-marked L K p k op d a b t e M r bits x y z w wx wy wz =
     }
 
 goal-moved : (L : Layout) (p : List Line) (t : Target) → targetLine (newTarget (start L p) t) ≡ start L p (targetLine t)
-unfolding targetLine newTarget start
-goal-moved L [] NoTarget = refl
-goal-moved L (l ∷ p) NoTarget = refl
+unfolding targetLine newTarget
+goal-moved L p NoTarget = sym (start-zero L p)
 goal-moved L p (ToLine t) = refl
 
-next-moved : (L : Layout) (p : List Line) (k : ℕ) (op : Opcode) (d a b : Operand) (t : Target) (s : State) → start L p (suc k) ≡ start L p k + 1
+pub next-moved : (L : Layout) (p : List Line) (k : ℕ) (op : Opcode) (d a b : Operand) (t : Target) (s : State) → start L p (suc k) ≡ start L p k + 1
     → next (mk Unmarked op d a b (newTarget (start L p) t)) (start L p k) s ≡ start L p (next (mk Unmarked op d a b t) k s)
 unfolding next
 next-moved L p k op d a b t s e = go (taken op (value a s) (value b s))

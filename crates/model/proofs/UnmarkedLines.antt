@@ -36,7 +36,7 @@ module _ (s t : State) (ls : length s ≡ 544) (lt : length t ≡ 544) (h : Same
   old-same (SensitiveCell r k) g = absurd g
   old-same (TableCell r k) g = absurd g
 
-  result-same : (op : Opcode) (g : Target) → result (mk Unmarked op d a b g) s ≡ result (mk Unmarked op d a b g) t
+  pub result-same : (op : Opcode) (g : Target) → result (mk Unmarked op d a b g) s ≡ result (mk Unmarked op d a b g) t
   unfolding result
   result-same op g = ap₂ (alu Unmarked op) (value-same s t h a (P .first)) (value-same s t h b (P .second))
 

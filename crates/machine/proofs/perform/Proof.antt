@@ -1,5 +1,5 @@
 -- `machine::perform` meets its contract: the parts of a step from what each call gives. Assumes nothing.
-use mathlib.Core.Path.{_≡_, sym, ap, _∙_}
+use mathlib.Core.Path.{_≡_, ap}
 use mathlib.Core.Bool.{Bool, cond}
 use mathlib.Core.List.{List}
 use Prim.Native.Nat.{ℕ, suc}
@@ -7,7 +7,6 @@ use lib.ListN.{getD, set}
 use borrow.Author.Needs.{needs}
 use Rattle.model.specs.declared.Mark.{Mark}
 use Rattle.model.specs.declared.Opcode.{Opcode}
-use Rattle.model.specs.declared.Operand.{Operand}
 use Rattle.model.specs.declared.Line.{Line}
 use Rattle.model.specs.Places.{State, place, address}
 use Rattle.model.specs.Stored.{lineOf}
@@ -15,14 +14,10 @@ use Rattle.model.specs.Step.{weight, argument, alu, taken, targetLine, result, 
 use Rattle.machine.specs.declared.Arguments.{Arguments}
 use Rattle.machine.specs.declared.Fetched.{Fetched}
 use Rattle.machine.specs.declared.Place.{Place}
-use Rattle.machine.specs.Loop.{placeOf, fetchOf, readAs, argumentsOf, rowOf}
-use Rattle.machine.proofs.NamedPlaces.{argument-read}
+use Rattle.machine.specs.Loop.{placeOf, fetchOf, argumentsOf, rowOf}
+use Rattle.machine.proofs.NamedPlaces.{arguments-read}
 use Rattle.machine.proofs.perform.Statement.{statement}
 use Rattle.machine.proofs.perform.Tie as tie
-
--- what a line of that mark reads of what was fetched is its argument
-read-of : (m : Mark) (o : Operand) (s : State) (x : Fetched) → x ≡ fetchOf o s → readAs m (x .at) (x .value) ≡ argument m o s
-read-of m o s x e = rw e (sym (argument-read m o s))
 
 -- what a step answers and leaves, over plain values
 performed : (l : Line) (k : ℕ) (s s′ : State) (m : Mark) (p : Opcode) (j : Bool) (x y : Fetched) (z : Arguments) (q : Place) (g n r o : ℕ) (t : List ℕ)
@@ -33,8 +28,9 @@ performed : (l : Line) (k : ℕ) (s s′ : State) (m : Mark) (p : Opcode) (j : B
     → ((n ≡ next l k s) × (t ≡ row l k s)) × (s′ ≡ after l s)
 unfolding next row after result
 performed l k s s′ m p j x y z q g n r o t em ep ex ey ez er ej eg en eq eo es et =
-    let a : z .first ≡ argument m (l .first) s = ap (λ (z : Arguments). z .first) ez ∙ read-of m (l .first) s x ex in
-    let b : z .second ≡ argument m (l .second) s = ap (λ (z : Arguments). z .second) ez ∙ read-of m (l .second) s y ey in
+    let ab = arguments-read m (l .first) (l .second) s x y z ex ey ez in
+    let a = ab .0 in
+    let b = ab .1 in
     let v : x .weight ≡ weight (address (l .first) s) = ap (λ (z : Fetched). z .weight) ex in
     let w : y .weight ≡ weight (address (l .second) s) = ap (λ (z : Fetched). z .weight) ey in
     let e : q .at ≡ place (l .destination) s = ap (λ (z : Place). z .at) eq in

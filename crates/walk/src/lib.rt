@@ -1,0 +1,255 @@
+// Req 01, the verdict on patched listings: a walk over a stored program whose steps work on sets of values. specs/Walk has the definitions,
+// specs/Claims what a verdict means; sets.rt has the bytes of sets, choices.rt what a line does in all states of the sets.
+ghost use mathlib.Core.Path.{_≡_};
+ghost use Prim.Native.Nat.{ℕ, _*_, _<_, _≤_};
+ghost use lib.Dec.{T};
+ghost use lib.ListN.{length, getD};
+ghost use Rattle.model.specs.Limits.{stateSize, lineWidth, maxLines};
+ghost use Rattle.model.specs.Stored.{operandOf, opcodeOf, lineCount, lines};
+ghost use Rattle.walk.specs.Walk.{setWidth, maxValues, listed, listsOf, setsOf, sized, values, distinct, heads, branches, loose, unsettled, onto, walk, told, verdictReport};
+ghost use Rattle.walk.specs.Claims.{Full};
+ghost use Rattle.walk.specs.Gathering.{lineBy, moves, refusalOf};
+ghost use Rattle.walk.specs.declared.Move.the-variants.{To};
+use choices::base_of;
+use choices::explore;
+use model::Answer;
+use model::Opcode;
+use model::ROW_WIDTH;
+use model::STATE_SIZE;
+use sets::MAX_VALUES;
+use sets::ROOM;
+use sets::SET_WIDTH;
+use sets::is_several;
+use sets::note;
+use sets::put_set;
+use sets::size_of;
+use sets::value_of;
+
+mod choices;
+mod sets;
+
+// The bytes of the sets of all places.
+pub const SETS_SIZE: usize = SET_WIDTH * STATE_SIZE;
+
+// What the walk answers: where a run would be halted or spent, its counter and steps; the first line where two choices give different
+// rows, and the steps done before it; or the number of the condition that holds, and the line.
+pub enum Verdict {
+    Balanced { counter: u16, steps: u16 },
+    Spent { counter: u16, steps: u16 },
+    Leak { line: u16, steps: u16 },
+    Refused { number: u8, line: u16 },
+}
+
+// What one step on sets answers: the next counter, or how the walk ends.
+enum Move {
+    To(u16),
+    Leaks,
+    Refuses(u8),
+}
+
+// beq, bne.
+fn is_branch(opcode: Opcode) -> bool
+    ensures { λ r. ⌜ r ≡ branches opcode ⌝ }
+{
+    match opcode {
+        Opcode::Nop => false,
+        Opcode::Jmp => false,
+        Opcode::Not => false,
+        Opcode::Mov => false,
+        Opcode::And => false,
+        Opcode::Orr => false,
+        Opcode::Xor => false,
+        Opcode::Lsl => false,
+        Opcode::Lsr => false,
+        Opcode::Add => false,
+        Opcode::Mul => false,
+        Opcode::Beq => true,
+        Opcode::Bne => true,
+    }
+}
+
+// Whether an argument or its base has several values.
+fn is_loose(code: u16, sets: &[u8], state: &[u8]) -> bool
+    requires { ⌜ (length (now sets) ≡ setWidth * stateSize) × (now state ≡ heads (listsOf (now sets))) ⌝ }
+    ensures { λ r. ⌜ r ≡ loose (listsOf (now (sets .entry))) (operandOf code) ⌝ }
+{
+    if is_several(sets, base_of(code)) {
+        return true;
+    }
+    is_several(sets, machine::place_at(code, state))
+}
+
+// 21: a branch argument, its base or a destination's base has several values.
+fn is_unsettled(line: &[u16], sets: &[u8], state: &[u8]) -> bool
+    requires { ⌜ (length (now line) ≡ lineWidth) × (length (now sets) ≡ setWidth * stateSize) × (now state ≡ heads (listsOf (now sets))) ⌝ }
+    ensures { λ r. ⌜ r ≡ unsettled (listsOf (now (sets .entry))) (lineBy (now (line .entry))) ⌝ }
+{
+    if is_several(sets, base_of(line[2])) {
+        return true;
+    }
+    if is_branch(coding::opcode_of(line[1])) {
+        if is_loose(line[3], sets, state) {
+            return true;
+        }
+        return is_loose(line[4], sets, state);
+    }
+    false
+}
+
+// One step on sets. Where the walk goes on, the sets and their first values are those after it.
+fn step(line: &[u16], counter: u16, sets: &mut [u8], state: &mut [u8]) -> Move
+    requires { ⌜ (length (now line) ≡ lineWidth) × (counter < 65535) × (length (now sets) ≡ setWidth * stateSize) × (now state ≡ heads (listsOf (now sets))) × Full (listsOf (now sets)) ⌝ }
+    ensures { λ r. ⌜ r ≡ moves (listsOf (now (sets .entry))) (lineBy (now (line .entry))) counter ⌝ }
+    ensures { λ r. ⌜ ((n : ℕ) → r ≡ To n → (listsOf (now (sets .exit)) ≡ onto (listsOf (now (sets .entry))) (lineBy (now (line .entry)))) × (now (state .exit) ≡ heads (listsOf (now (sets .exit))))) ⌝ }
+{
+    if is_unsettled(line, sets, state) {
+        return Move::Refuses(21);
+    }
+    let mut row = [0u16; ROW_WIDTH];
+    let mut found = [0u8; ROOM];
+    let leak = explore(line, counter, &mut row, 0, sets, state, &mut found, false);
+    if MAX_VALUES < (found[0] as usize) {
+        return Move::Refuses(22);
+    }
+    if leak {
+        return Move::Leaks;
+    }
+    let next = machine::next_of(line[0], line[1], line[3], line[4], line[5], counter, state);
+    let at = machine::place_at(line[2], state);
+    put_set(sets, at, &found);
+    machine::write(state, at, found[1]);
+    Move::To(next)
+}
+
+// At most `budget` steps on sets of a checked program of `count` lines.
+fn walk_lines(
+    program: &[u16],
+    count: u16,
+    budget: u16,
+    sets: &mut [u8],
+    state: &mut [u8],
+) -> Verdict
+    requires { ⌜ (count ≡ lineCount (now program)) × (count ≤ maxLines) × (length (now sets) ≡ setWidth * stateSize) × (now state ≡ heads (listsOf (now sets))) × Full (listsOf (now sets)) ⌝ }
+    ensures { λ r. ⌜ r ≡ walk (lines (now (program .entry))) budget 0 0 (listsOf (now (sets .entry))) ⌝ }
+{
+    let mut counter: u16 = 0;
+    let mut steps: u16 = 0;
+    while counter < count {
+        if budget <= steps {
+            return Verdict::Spent { counter, steps };
+        }
+        let line = coding::numbers_at(program, counter as usize);
+        let moved = step(&line, counter, sets, state);
+        match moved {
+            Move::To(next) => {
+                counter = next;
+                steps += 1;
+            }
+            Move::Leaks => {
+                return Verdict::Leak {
+                    line: counter,
+                    steps,
+                };
+            }
+            Move::Refuses(number) => {
+                return Verdict::Refused {
+                    number,
+                    line: counter,
+                };
+            }
+        }
+    }
+    Verdict::Balanced { counter, steps }
+}
+
+// Whether each set has 1 to 16 values.
+fn is_sized(sets: &[u8]) -> bool
+    requires { ⌜ length (now sets) ≡ setWidth * stateSize ⌝ }
+    ensures { λ r. ⌜ r ≡ sized stateSize (now (sets .entry)) ⌝ }
+{
+    let mut i = 0;
+    while i < STATE_SIZE {
+        let n = sets[SET_WIDTH * i] as usize;
+        if n == 0 {
+            return false;
+        }
+        if MAX_VALUES < n {
+            return false;
+        }
+        i += 1;
+    }
+    true
+}
+
+// The values of a place, each once.
+fn distinct_at(sets: &[u8], i: usize) -> [u8; ROOM]
+    requires { ⌜ length (now sets) ≡ setWidth * stateSize ⌝ }
+    ensures { λ r. ⌜ (listed r ≡ distinct (values (listsOf (now (sets .entry))) i)) × (getD r 0 0 ≤ maxValues) ⌝ }
+{
+    let n = size_of(sets, i);
+    let mut found = [0u8; ROOM];
+    let mut j = 0;
+    while j < n {
+        note(&mut found, value_of(sets, i, j));
+        j += 1;
+    }
+    found
+}
+
+// The sets that are walked on, each value once, and the state of their first values.
+fn take_sets(sets: &[u8], own: &mut [u8], state: &mut [u8])
+    requires { ⌜ (length (now sets) ≡ setWidth * stateSize) × T (sized stateSize (now sets)) × (length (now own) ≡ setWidth * stateSize) × (length (now state) ≡ stateSize) ⌝ }
+    ensures { λ r. ⌜ (listsOf (now (own .exit)) ≡ setsOf (now (sets .entry))) × (now (state .exit) ≡ heads (listsOf (now (own .exit)))) ⌝ }
+{
+    let mut i = 0;
+    while i < STATE_SIZE {
+        let found = distinct_at(sets, i);
+        put_set(own, i, &found);
+        state[i] = found[1];
+        i += 1;
+    }
+}
+
+// The refusal of a program's check.
+fn refusal_of(checked: Answer) -> Verdict
+    ensures { λ r. ⌜ r ≡ refusalOf checked ⌝ }
+{
+    match checked {
+        Answer::Count(_) => Verdict::Refused { number: 0, line: 0 },
+        Answer::Halted {
+            counter: _,
+            steps: _,
+        } => Verdict::Refused { number: 0, line: 0 },
+        Answer::Spent {
+            counter: _,
+            steps: _,
+        } => Verdict::Refused { number: 0, line: 0 },
+        Answer::Refused { number, line } => Verdict::Refused { number, line },
+    }
+}
+
+// The verdict on a stored program, from sets that are left alone, with a budget of steps.
+pub fn judge(program: &[u16], sets: &[u8], budget: u16) -> Verdict
+    ensures { λ r. ⌜ told r ≡ verdictReport (now (program .entry)) (now (sets .entry)) budget ⌝ }
+{
+    let checked = coding::check_program(program);
+    let Answer::Count(count) = checked else {
+        return refusal_of(checked);
+    };
+    if sets.len() != SETS_SIZE {
+        return Verdict::Refused {
+            number: 18,
+            line: 0,
+        };
+    }
+    if !is_sized(sets) {
+        return Verdict::Refused {
+            number: 22,
+            line: 0,
+        };
+    }
+    let mut own = [0u8; SETS_SIZE];
+    let mut state = [0u8; STATE_SIZE];
+    take_sets(sets, &mut own, &mut state);
+    walk_lines(program, count as u16, budget, &mut own, &mut state)
+}
