@@ -8,8 +8,10 @@ ghost use Rattle.model.specs.Marks.{markCheck};
 ghost use Rattle.model.specs.Expansion.{expandOutcome};
 ghost use Rattle.model.specs.Images.{toImageOutcome, fromImageOutcome};
 ghost use Rattle.model.specs.Run.{runOutcome};
+ghost use Rattle.walk.specs.Walk.{told, verdictReport};
 ghost use Rattle.dualrail.specs.Packing.{packed, packedRun};
 use model::Answer;
+use walk::Verdict;
 
 // The entry points below but `run` give no ending, and `run` gives no count: these arms are what the definition says of them.
 fn pack(answer: Answer) -> u64
@@ -101,4 +103,24 @@ pub extern "C" fn dualrail_run(
     ensures { λ _. ⌜ now (state .exit) ∷ now (trace .exit) ∷ [] ≡ runOutcome (now (program .entry)) start budget (now (state .entry)) (now (trace .entry)) .stores ⌝ }
 {
     pack_run(machine::run(program, start, budget, state, trace))
+}
+
+fn pack_verdict(verdict: Verdict) -> u64
+    ensures { λ r. ⌜ r ≡ packedRun (told verdict) ⌝ }
+{
+    match verdict {
+        Verdict::Balanced { counter, steps } => (counter as u64) * 65536 + (steps as u64),
+        Verdict::Spent { counter, steps } => {
+            4294967296 + (counter as u64) * 65536 + (steps as u64)
+        }
+        Verdict::Leak { line, steps } => 8589934592 + (line as u64) * 65536 + (steps as u64),
+        Verdict::Refused { number, line } => { (number as u64) * 281474976710656 + (line as u64) }
+    }
+}
+
+#[no_mangle]
+pub extern "C" fn dualrail_judge(program: &[u16], sets: &[u8], budget: u16) -> u64
+    ensures { λ r. ⌜ r ≡ packedRun (verdictReport (now (program .entry)) (now (sets .entry)) budget) ⌝ }
+{
+    pack_verdict(walk::judge(program, sets, budget))
 }
