@@ -4,56 +4,10 @@
 
 use crate::answer::{Answer, Dualrail};
 use crate::generate as make;
+use crate::lent::Lent;
 use crate::paper::{self, Kind, Line, Paper, LONGEST, MOST_BYTES, MOST_CHECKED, MOST_LINES, ROW, SIX, STATE};
 use crate::random::Random;
 use std::panic::{catch_unwind, AssertUnwindSafe};
-
-/// A piece of memory with guard values before and behind.
-#[derive(Clone, PartialEq)]
-struct Lent<T> {
-    whole: Vec<T>,
-    from: usize,
-    to: usize,
-}
-
-impl<T: Copy + PartialEq + std::fmt::Debug> Lent<T> {
-    fn new(rng: &mut Random, contents: &[T], guard: fn(&mut Random) -> T) -> Lent<T> {
-        let from = 8 + rng.below(8);
-        let mut whole: Vec<T> = (0..from).map(|_| guard(rng)).collect();
-        whole.extend_from_slice(contents);
-        whole.extend((0..16).map(|_| guard(rng)));
-        Lent { whole, from, to: from + contents.len() }
-    }
-
-    fn part(&self) -> &[T] {
-        &self.whole[self.from..self.to]
-    }
-
-    fn part_mut(&mut self) -> &mut [T] {
-        &mut self.whole[self.from..self.to]
-    }
-
-    fn show(&self, name: &str) -> String {
-        let size = self.part().len();
-        let shown = size.min(3_000);
-        let rest = if shown < size { " and so on" } else { "" };
-        format!("{name} ({size} long): {:?}{rest}\n", &self.part()[..shown])
-    }
-
-    /// Where and how this differs from what is expected.
-    fn differs(&self, expected: &Lent<T>, name: &str) -> String {
-        match (0..self.whole.len()).find(|&at| self.whole[at] != expected.whole[at]) {
-            None => String::new(),
-            Some(at) => format!(
-                "{name}: {:?} instead of {:?} at index {}{}\n",
-                self.whole[at],
-                expected.whole[at],
-                at as isize - self.from as isize,
-                if at < self.from || at >= self.to { ", a guard value" } else { "" }
-            ),
-        }
-    }
-}
 
 #[derive(Clone, Copy, Debug, PartialEq)]
 pub enum Entry {
@@ -189,14 +143,6 @@ pub fn compare(tested: &dyn Dualrail, seed: u64, from: u64, to: u64) -> Result<C
     Ok(comparison.counts)
 }
 
-fn any_number(rng: &mut Random) -> u16 {
-    rng.next() as u16
-}
-
-fn any_byte(rng: &mut Random) -> u8 {
-    rng.byte()
-}
-
 /// A size for a lent store where `needed` is just enough.
 fn size(rng: &mut Random, needed: usize) -> usize {
     match rng.below(10) {
@@ -223,12 +169,12 @@ impl Comparison<'_> {
         let rng = &mut self.rng;
         let mut got = Call {
             entry,
-            bytes: Lent::new(rng, bytes, any_byte),
-            numbers: Lent::new(rng, numbers, any_number),
+            bytes: Lent::new(rng, bytes, Random::byte),
+            numbers: Lent::new(rng, numbers, Random::number),
             start,
             budget,
-            lent_bytes: Lent::new(rng, lent_bytes, any_byte),
-            lent_numbers: Lent::new(rng, lent_numbers, any_number),
+            lent_bytes: Lent::new(rng, lent_bytes, Random::byte),
+            lent_numbers: Lent::new(rng, lent_numbers, Random::number),
         };
         let before = got.clone();
         let mut wanted = got.clone();
@@ -263,11 +209,11 @@ impl Comparison<'_> {
     }
 
     fn some_bytes(&mut self, size: usize) -> Vec<u8> {
-        (0..size).map(|_| any_byte(&mut self.rng)).collect()
+        (0..size).map(|_| self.rng.byte()).collect()
     }
 
     fn some_numbers(&mut self, size: usize) -> Vec<u16> {
-        (0..size).map(|_| any_number(&mut self.rng)).collect()
+        (0..size).map(|_| self.rng.number()).collect()
     }
 
     fn read(&mut self, text: &[u8], size: usize) -> Result<(Answer, Vec<u16>), String> {

@@ -6,6 +6,7 @@ pub mod compare;
 #[cfg(not(feature = "no-library"))]
 pub mod ffi;
 pub mod generate;
+pub mod lent;
 pub mod paper;
 pub mod plain;
 pub mod random;

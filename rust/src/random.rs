@@ -41,6 +41,10 @@ impl Random {
         (self.next() >> 56) as u8
     }
 
+    pub fn number(&mut self) -> u16 {
+        self.next() as u16
+    }
+
     pub fn bit(&mut self) -> u8 {
         (self.next() >> 63) as u8
     }
