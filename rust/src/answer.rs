@@ -7,14 +7,18 @@ pub enum Answer {
     Counted(u32),
     /// A run that reached the end.
     Halted { counter: u16, steps: u16 },
-    /// A run that used up its budget below the line count.
+    /// A run or walk that used up its budget below the line count.
     Spent { counter: u16, steps: u16 },
+    /// A walk that reached the end, all its choices alike.
+    Balanced { counter: u16, steps: u16 },
+    /// A walk with two choices unlike: the line, and the steps done before.
+    Leak { line: u16, steps: u16 },
     /// A refusal: its number in the paper's table, and the line.
     Refused { number: u16, line: u32 },
 }
 
 impl Answer {
-    /// Takes apart the answer of every exported function but the run's.
+    /// Takes apart the answer of every exported function but the run's and the walk's.
     pub fn from_count(packed: u64) -> Answer {
         let value = packed as u32;
         match packed >> 32 {
@@ -25,17 +29,40 @@ impl Answer {
 
     /// Takes apart the answer of the exported run.
     pub fn from_run(packed: u64) -> Answer {
-        let counter = (packed >> 16) as u16;
-        let steps = packed as u16;
-        match (packed >> 48, packed >> 32) {
-            (0, 0) => Answer::Halted { counter, steps },
-            (0, 1) => Answer::Spent { counter, steps },
-            (0, ending) => panic!("no such ending: {ending}"),
-            (number, _) => {
-                let line = packed & 0xffff_ffff_ffff;
-                assert!(line < 1 << 32, "no such line: {line}");
-                Answer::Refused { number: small(number), line: line as u32 }
-            }
+        let (ending, counter, steps) = match ending(packed) {
+            Ok(parts) => parts,
+            Err(refused) => return refused,
+        };
+        match ending {
+            0 => Answer::Halted { counter, steps },
+            1 => Answer::Spent { counter, steps },
+            _ => panic!("no such ending: {ending}"),
+        }
+    }
+
+    /// Takes apart the answer of the exported walk.
+    pub fn from_judge(packed: u64) -> Answer {
+        let (ending, counter, steps) = match ending(packed) {
+            Ok(parts) => parts,
+            Err(refused) => return refused,
+        };
+        match ending {
+            0 => Answer::Balanced { counter, steps },
+            1 => Answer::Spent { counter, steps },
+            2 => Answer::Leak { line: counter, steps },
+            _ => panic!("no such ending: {ending}"),
+        }
+    }
+}
+
+/// Ending, counter and steps of a packed answer; else the refusal that it is.
+fn ending(packed: u64) -> Result<(u16, u16, u16), Answer> {
+    match packed >> 48 {
+        0 => Ok(((packed >> 32) as u16, (packed >> 16) as u16, packed as u16)),
+        number => {
+            let line = packed & 0xffff_ffff_ffff;
+            assert!(line < 1 << 32, "no such line: {line}");
+            Err(Answer::Refused { number: small(number), line: line as u32 })
         }
     }
 }
@@ -45,7 +72,7 @@ fn small(number: u64) -> u16 {
     number as u16
 }
 
-/// The seven entry points.
+/// The eight entry points.
 pub trait Dualrail {
     /// Reads a text into stored lines.
     fn read(&self, text: &[u8], store: &mut [u16]) -> Answer;
@@ -61,6 +88,8 @@ pub trait Dualrail {
     fn from_image(&self, image: &[u8], bits: &mut [u8]) -> Answer;
     /// Runs a stored program, a trace row for each step.
     fn run(&self, program: &[u16], start: u16, budget: u16, state: &mut [u8], trace: &mut [u16]) -> Answer;
+    /// Judges a stored program, with 17 bytes for each place: how many values it may have, and these.
+    fn judge(&self, program: &[u16], sets: &[u8], budget: u16) -> Answer;
 }
 
 #[cfg(test)]
@@ -75,5 +104,9 @@ mod tests {
         assert_eq!(Answer::from_run(1 << 32 | 65_535), Spent { counter: 0, steps: 65_535 });
         assert_eq!(Answer::from_run(20 << 48), Refused { number: 20, line: 0 });
         assert_eq!(Answer::from_run(7 << 48 | 16_384), Refused { number: 7, line: 16_384 });
+        assert_eq!(Answer::from_judge(3 << 16 | 2), Balanced { counter: 3, steps: 2 });
+        assert_eq!(Answer::from_judge(1 << 32 | 65_535), Spent { counter: 0, steps: 65_535 });
+        assert_eq!(Answer::from_judge(2 << 32 | 9 << 16 | 4), Leak { line: 9, steps: 4 });
+        assert_eq!(Answer::from_judge(22 << 48 | 7), Refused { number: 22, line: 7 });
     }
 }

@@ -5,8 +5,10 @@
 use crate::answer::{Answer, Dualrail};
 use crate::generate as make;
 use crate::lent::Lent;
+use crate::paper::walk::SET;
 use crate::paper::{self, Kind, Line, Paper, LONGEST, MOST_BYTES, MOST_CHECKED, MOST_LINES, ROW, SIX, STATE};
 use crate::random::Random;
+use std::collections::BTreeSet;
 use std::panic::{catch_unwind, AssertUnwindSafe};
 
 #[derive(Clone, Copy, Debug, PartialEq)]
@@ -18,6 +20,7 @@ pub enum Entry {
     ToImage,
     FromImage,
     Run,
+    Judge,
 }
 
 /// One call with all its memory; parts that an entry point does not have are empty.
@@ -49,6 +52,7 @@ impl Call {
                 self.lent_bytes.part_mut(),
                 self.lent_numbers.part_mut(),
             ),
+            Entry::Judge => on.judge(numbers, bytes, self.budget),
         }
     }
 
@@ -58,18 +62,14 @@ impl Call {
         match self.entry {
             Entry::Read => shown += &(format!("text as string: {text:.20000?}\n") + &self.bytes.show("text")),
             Entry::ToImage | Entry::FromImage => shown += &self.bytes.show("state"),
-            _ => {
-                shown += &self.numbers.show("program");
-                if let Ok(lines) = paper::stored_program(self.numbers.part()) {
-                    for (at, line) in lines.iter().take(500).enumerate() {
-                        shown += &format!("{at:6}  {}\n", line.spelling());
-                    }
-                }
-            }
+            _ => shown += &(self.numbers.show("program") + &show_lines(self.numbers.part())),
         }
         if self.entry == Entry::Run {
             shown += &format!("start {}, budget {}\n", self.start, self.budget);
             shown += &self.lent_bytes.show("state");
+        } else if self.entry == Entry::Judge {
+            shown += &format!("budget {}\n", self.budget);
+            shown += &show_sets(self.bytes.part());
         } else {
             shown += &format!("lent bytes: {}\n", self.lent_bytes.part().len());
         }
@@ -77,15 +77,44 @@ impl Call {
     }
 }
 
+/// The first lines of a stored program as they are written, if it is one.
+fn show_lines(program: &[u16]) -> String {
+    let lines = paper::stored_program(program).unwrap_or_default();
+    lines.iter().take(500).enumerate().map(|(at, line)| format!("{at:6}  {}\n", line.spelling())).collect()
+}
+
+/// Lent sets as a list: their length, then each place with its count and values.
+fn show_sets(bytes: &[u8]) -> String {
+    let mut shown = format!("sets ({} bytes), place: count, values", bytes.len());
+    for (place, set) in bytes.chunks(SET).enumerate() {
+        let count = (set[0] as usize).min(set.len() - 1);
+        shown +=
+            &format!("{}{place}: {} {:?}", if place % 8 == 0 { "\n" } else { "; " }, set[0], &set[1..=count]);
+    }
+    shown + "\n"
+}
+
 /// What has been tried.
 #[derive(Clone, Default)]
 pub struct Counts {
     pub calls: u64,
-    pub entries: [u64; 7],
-    pub refusals: [u64; 21],
+    pub entries: [u64; 8],
+    pub refusals: [u64; 23],
     pub halted: u64,
     pub spent: u64,
     pub steps: u64,
+    /// The walks' answers; those refused with 22 at a step once more by themselves.
+    pub balanced: u64,
+    pub spent_walks: u64,
+    pub leaks: u64,
+    pub refused_walks: [u64; 23],
+    pub crowded: u64,
+    pub steps_on_sets: u64,
+    /// Runs from states drawn out of a walk's sets, and leaks that two such runs show.
+    pub drawn_runs: u64,
+    pub leaks_shown: u64,
+    /// Verdicts on one step compared with all states: without leak, with one.
+    pub exact: [u64; 2],
     /// Accepted programs that went the whole way, and the sizes of what was compared there.
     pub whole_runs: u64,
     pub equal_rows: u64,
@@ -103,6 +132,7 @@ impl Counts {
             Entry::ToImage,
             Entry::FromImage,
             Entry::Run,
+            Entry::Judge,
         ];
         for entry in entries {
             shown += &format!(" {entry:?} {}", self.entries[entry as usize]);
@@ -112,6 +142,17 @@ impl Counts {
             shown += &format!(" {number}: {count}");
         }
         shown += &format!("\nruns: {} halted, {} spent, {} steps", self.halted, self.spent, self.steps);
+        shown += &format!(
+            "\nwalks: {} balanced, {} spent, {} leaks, {} steps",
+            self.balanced, self.spent_walks, self.leaks, self.steps_on_sets
+        );
+        for (number, count) in self.refused_walks.iter().enumerate().filter(|(_, &count)| count > 0) {
+            shown += &format!(", {number}: {count}");
+        }
+        shown += &format!(
+            " ({} at a step); {} runs drawn, {} leaks shown by them; one step, all states: {:?} without and with leak",
+            self.crowded, self.drawn_runs, self.leaks_shown, self.exact
+        );
         shown
             + &format!(
                 "\naccepted programs run whole: {}, rows of equal traces: {}, source steps followed: {}",
@@ -195,15 +236,19 @@ impl Comparison<'_> {
         counts.entries[entry as usize] += 1;
         match answer {
             Answer::Counted(_) => (),
-            Answer::Refused { number, .. } => counts.refusals[number as usize] += 1,
-            Answer::Halted { steps, .. } => {
-                counts.halted += 1;
-                counts.steps += steps as u64;
+            Answer::Refused { number, .. } => {
+                counts.refusals[number as usize] += 1;
+                counts.refused_walks[number as usize] += (entry == Entry::Judge) as u64;
             }
-            Answer::Spent { steps, .. } => {
-                counts.spent += 1;
-                counts.steps += steps as u64;
-            }
+            Answer::Halted { .. } => counts.halted += 1,
+            Answer::Spent { .. } if entry == Entry::Judge => counts.spent_walks += 1,
+            Answer::Spent { .. } => counts.spent += 1,
+            Answer::Balanced { .. } => counts.balanced += 1,
+            Answer::Leak { .. } => counts.leaks += 1,
+        }
+        match entry {
+            Entry::Judge => counts.steps_on_sets += steps(answer) as u64,
+            _ => counts.steps += steps(answer) as u64,
         }
         Ok((answer, got))
     }
@@ -257,20 +302,26 @@ impl Comparison<'_> {
         Ok((answer, call.lent_bytes.part().to_vec(), call.lent_numbers.part().to_vec()))
     }
 
+    fn judge(&mut self, program: &[u16], sets: &[u8], budget: usize) -> Result<Answer, String> {
+        Ok(self.call(Entry::Judge, (sets, program), (0, budget as u16), (&[], &[]))?.0)
+    }
+
     // ------------------------------------------------------------ cases
 
     fn case(&mut self, case: u64) -> Result<(), String> {
         if case % 25 == 0 {
             return self.long(case / 25);
         }
-        match self.rng.below(10) {
+        match self.rng.below(13) {
             0..=3 => {
                 let lines = make::accepted_program(&mut self.rng);
                 self.whole_way(&lines)
             }
             4..=6 => self.texts(),
             7 => self.states(),
-            _ => self.stored_programs(),
+            8..=9 => self.stored_programs(),
+            10 => self.first_step(),
+            _ => self.walks(),
         }
     }
 
@@ -368,6 +419,109 @@ impl Comparison<'_> {
         Ok(())
     }
 
+    /// Programs and sets to judge, right or damaged; a verdict must hold of runs.
+    fn walks(&mut self) -> Result<(), String> {
+        let (lines, sets) = make::walk(&mut self.rng);
+        let mut program = make::stored(&lines);
+        let mut bytes = make::set_bytes(&mut self.rng, &sets);
+        let damaged = [self.rng.one_in(12), self.rng.one_in(8)];
+        if damaged[0] {
+            make::damage_numbers(&mut self.rng, &mut program);
+        }
+        if damaged[1] {
+            make::damage_sets(&mut self.rng, &mut bytes);
+        }
+        if self.rng.one_in(3) {
+            let more = self.rng.below(SIX);
+            program.extend(self.some_numbers(more));
+        }
+        let budget = self.budget();
+        let answer = self.judge(&program, &bytes, budget)?;
+        if damaged == [false, false] {
+            self.counts.crowded += matches!(answer, Answer::Refused { number: 22, .. }) as u64;
+            self.verdict_holds(&program, &sets, budget, answer)?;
+        }
+        Ok(())
+    }
+
+    /// The verdict on one step, where the places are still independent, is exact: a leak
+    /// just where two of all the states that the sets allow give different rows.
+    fn first_step(&mut self) -> Result<(), String> {
+        let (lines, sets) = make::small_walk(&mut self.rng);
+        let program = make::stored(&lines);
+        let bytes = make::set_bytes(&mut self.rng, &sets);
+        let leak = match self.judge(&program, &bytes, 1)? {
+            Answer::Leak { .. } => true,
+            Answer::Balanced { .. } | Answer::Spent { .. } => false,
+            _ => return Ok(()),
+        };
+        let rows: BTreeSet<[u16; ROW]> = make::all_states(&sets)
+            .into_iter()
+            .map(|mut state| {
+                let mut row = [0; ROW];
+                Paper.run(&program, 0, 1, &mut state, &mut row);
+                row
+            })
+            .collect();
+        if leak != (rows.len() > 1) {
+            return Err(format!(
+                "leak: {leak}, rows {rows:?}\n{}{}",
+                show_lines(&program),
+                show_sets(&bytes)
+            ));
+        }
+        self.counts.exact[leak as usize] += 1;
+        Ok(())
+    }
+
+    /// The verdict on an expansion with the images that have the public places of this one.
+    fn judge_images(&mut self, expansion: &[u16], image: &[u8]) -> Result<Answer, String> {
+        let sets = make::image_sets(&mut self.rng, image);
+        let bytes = make::set_bytes(&mut self.rng, &sets);
+        let budget = self.rng.below(100);
+        let answer = self.judge(expansion, &bytes, budget)?;
+        self.verdict_holds(expansion, &sets, budget, answer)?;
+        Ok(answer)
+    }
+
+    /// Runs from states drawn out of the sets end as the walk did, with equal traces; if
+    /// it found a leak, as far as that, and mostly two of them differ there.
+    fn verdict_holds(
+        &mut self,
+        program: &[u16],
+        sets: &[Vec<u8>],
+        budget: usize,
+        verdict: Answer,
+    ) -> Result<(), String> {
+        let alike = ROW * steps(verdict);
+        let (budget, end) = match verdict {
+            Answer::Balanced { counter, steps } => (budget, Some(Answer::Halted { counter, steps })),
+            Answer::Spent { .. } => (budget, Some(verdict)),
+            // The step with the leak too, wherever it leads.
+            Answer::Leak { steps, .. } => (steps as usize + 1, None),
+            _ => return Ok(()),
+        };
+        let mut first = None;
+        let mut shown = false;
+        for _ in 0..3 {
+            let state = make::drawn_state(&mut self.rng, sets);
+            let (answer, _, trace) = self.run(program, (0, budget), &state, ROW * budget)?;
+            let first = first.get_or_insert_with(|| trace.clone());
+            let right = match verdict {
+                Answer::Leak { line, .. } => steps(answer) == budget && trace[alike] == line,
+                _ => Some(answer) == end,
+            };
+            if !right || trace[..alike] != first[..alike] {
+                let report = format!("verdict {verdict:?}; a run gives {answer:?} or another trace\n");
+                return Err(report + &show_lines(program) + &format!("budget {budget}\nsets {sets:?}\n"));
+            }
+            self.counts.drawn_runs += 1;
+            shown |= end.is_none() && trace[alike..] != first[alike..];
+        }
+        self.counts.leaks_shown += shown as u64;
+        Ok(())
+    }
+
     /// The sizes where 7 and 9 begin, and the longest runs.
     fn long(&mut self, which: u64) -> Result<(), String> {
         let near = self.rng.pick(&[0, 1, 2, 2, 2]);
@@ -389,11 +543,19 @@ impl Comparison<'_> {
                     make::damage_numbers(&mut self.rng, &mut program);
                 }
                 let state = make::any_state(&mut self.rng);
-                match self.rng.below(4) {
+                match self.rng.below(6) {
                     0 => drop(self.write(&program, MOST_BYTES)?),
                     1 => drop(self.check(&program)?),
                     2 => drop(self.expand(&program, SIX * MOST_LINES)?),
-                    _ => drop(self.run(&program, (0, 300), &state, ROW * 300)?),
+                    3 => drop(self.run(&program, (0, 300), &state, ROW * 300)?),
+                    _ => {
+                        let sets: Vec<Vec<u8>> = state.iter().map(|&value| vec![value]).collect();
+                        let mut bytes = make::set_bytes(&mut self.rng, &sets);
+                        if self.rng.one_in(4) {
+                            make::damage_sets(&mut self.rng, &mut bytes);
+                        }
+                        self.judge(&program, &bytes, 300)?;
+                    }
                 }
             }
             2 => {
@@ -476,6 +638,11 @@ impl Comparison<'_> {
         let steps = steps(answer_one);
         must(trace_one[..ROW * steps] == trace_two[..ROW * steps], "the traces differ")?;
 
+        // All images with these public places at once.
+        let answer = self.judge_images(&expansion, &image_one)?;
+        let right = matches!(answer, Answer::Balanced { .. } | Answer::Spent { .. });
+        must(right, "the expansion is neither balanced nor spent")?;
+
         // The expansion follows the source: as many steps as the parts of the lines done have.
         let budget = self.rng.below(200);
         let (answer, source, trace) = self.run(&program, (line, budget), &one, ROW * budget)?;
@@ -502,8 +669,11 @@ impl Comparison<'_> {
 
 fn steps(answer: Answer) -> usize {
     match answer {
-        Answer::Halted { steps, .. } | Answer::Spent { steps, .. } => steps as usize,
-        _ => 0,
+        Answer::Halted { steps, .. }
+        | Answer::Spent { steps, .. }
+        | Answer::Balanced { steps, .. }
+        | Answer::Leak { steps, .. } => steps as usize,
+        Answer::Counted(_) | Answer::Refused { .. } => 0,
     }
 }
 

@@ -19,10 +19,18 @@ extern "C" {
         trace: *mut u16,
         trace_length: usize,
     ) -> u64;
+    fn dualrail_judge(
+        program: *const u16,
+        program_length: usize,
+        sets: *const u8,
+        sets_length: usize,
+        budget: u16,
+    ) -> u64;
 }
 
 // Safe, all of them: a pointer and its length come from one slice, and two
-// slices of one call never overlap, as one of them at least is lent for writing.
+// slices of one call never overlap, as one of them at least is lent for writing;
+// `judge` only reads both of its slices.
 
 pub fn read(text: &[u8], store: &mut [u16]) -> Answer {
     Answer::from_count(unsafe { dualrail_read(text.as_ptr(), text.len(), store.as_mut_ptr(), store.len()) })
@@ -71,6 +79,12 @@ pub fn run(program: &[u16], start: u16, budget: u16, state: &mut [u8], trace: &m
     })
 }
 
+pub fn judge(program: &[u16], sets: &[u8], budget: u16) -> Answer {
+    Answer::from_judge(unsafe {
+        dualrail_judge(program.as_ptr(), program.len(), sets.as_ptr(), sets.len(), budget)
+    })
+}
+
 /// The static library as one of the implementations.
 pub struct Library;
 
@@ -95,6 +109,9 @@ impl Dualrail for Library {
     }
     fn run(&self, program: &[u16], start: u16, budget: u16, state: &mut [u8], trace: &mut [u16]) -> Answer {
         run(program, start, budget, state, trace)
+    }
+    fn judge(&self, program: &[u16], sets: &[u8], budget: u16) -> Answer {
+        judge(program, sets, budget)
     }
 }
 
@@ -121,6 +138,11 @@ mod tests {
             assert_eq!(dualrail_run(null(), 0, 5, 0, image.as_mut_ptr(), 544, odd, 0), 5 << 16);
             assert_eq!(dualrail_run(odd, 0, 0, 1, image.as_mut_ptr(), 544, null_mut(), 0), 20 << 48);
             assert_eq!(dualrail_run(null(), 0, 0, 0, null_mut(), 0, null_mut(), 0), 18 << 48);
+            let sets = [[1u8; 17]; 544].concat();
+            assert_eq!(dualrail_judge(null(), 0, sets.as_ptr(), sets.len(), 5), 0);
+            assert_eq!(dualrail_judge(odd, 0, sets.as_ptr(), sets.len(), 0), 0);
+            assert_eq!(dualrail_judge(null(), 0, null(), 0, 1), 18 << 48);
+            assert_eq!(dualrail_judge(odd, 0, odd.cast(), 0, 1), 18 << 48);
         }
         assert_eq!(image, [0; 544]);
     }

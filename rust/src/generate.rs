@@ -1,8 +1,9 @@
-//! Random inputs: programs that are right or nearly so, texts, states.
+//! Random inputs: programs that are right or nearly so, texts, states, sets.
 
+use crate::paper::walk::{MOST_VALUES, SET};
 use crate::paper::{
-    code, kind_of_place, table_page, Kind, Line, Opcode, Operand, Operand::*, LONGEST, MOST_LINES, OPCODES,
-    STATE,
+    self, code, kind_of_place, table_page, Kind, Line, Opcode, Operand, Operand::*, LONGEST, MOST_LINES,
+    OPCODES, STATE,
 };
 use crate::random::Random;
 
@@ -436,4 +437,259 @@ pub fn wrong_length(rng: &mut Random) -> usize {
     } else {
         size
     }
+}
+
+// ---------------------------------------------------------------- walks
+
+/// A program to judge, and the values that each place may have.
+pub fn walk(rng: &mut Random) -> (Vec<Line>, Vec<Vec<u8>>) {
+    match rng.below(6) {
+        0 | 1 => {
+            let mut lines = paper::expansion(&accepted_program(rng));
+            patch(rng, &mut lines);
+            let mut image = image(rng);
+            image[1..=3].fill(0);
+            (lines, image_sets(rng, &image))
+        }
+        2 => crowded_walk(rng),
+        _ => (near_program(rng), free_sets(rng)),
+    }
+}
+
+/// Few lines whose results come near to too many values; some are refused for a base or a branch.
+fn crowded_walk(rng: &mut Random) -> (Vec<Line>, Vec<Vec<u8>>) {
+    let argument = |rng: &mut Random| match rng.below(8) {
+        0 => literal(rng),
+        1 => Table { base: rng.within(1, 9) as u8, offset: rng.byte() },
+        2..=3 => Register(rng.within(5, 9) as u8),
+        _ => Register(rng.within(1, 4) as u8),
+    };
+    let place = |rng: &mut Random| match rng.below(8) {
+        0 => Table { base: rng.within(1, 9) as u8, offset: rng.byte() },
+        _ => Register(rng.within(5, 9) as u8),
+    };
+    let count = rng.within(1, 3);
+    let mut lines = vec![];
+    while lines.len() < count {
+        let opcode = match rng.below(2) {
+            0 => Opcode::Add,
+            _ => OPCODES[rng.within(3, 12)].0,
+        };
+        let mut line = line(rng, false, opcode, place, argument, count);
+        if rng.one_in(4) {
+            line.second = line.second.and(line.first);
+        }
+        lines.push(line);
+    }
+    let mut sets = free_sets(rng);
+    for values in &mut sets[1..5] {
+        *values = wide_set(rng);
+    }
+    for values in &mut sets[5..10] {
+        *values = vec![rng.pick(&[0, 0, 1])];
+    }
+    (lines, sets)
+}
+
+/// Changes a program as one would by hand: lines removed, exchanged, repeated, or changed.
+fn patch(rng: &mut Random, lines: &mut Vec<Line>) {
+    for _ in 0..rng.within(1, 2) {
+        let count = lines.len();
+        if count == 0 {
+            return;
+        }
+        let at = rng.below(count);
+        match rng.below(6) {
+            0 | 1 => drop(lines.remove(at)),
+            2 => lines.swap(at, rng.below(count)),
+            3 => lines.swap(at, (at + 1) % count),
+            4 => lines.insert(at, lines[rng.below(count)]),
+            _ => {
+                let operand = near_place(rng);
+                put_operand(rng, &mut lines[at], operand);
+            }
+        }
+    }
+}
+
+/// One of few places, so that operands meet, some behind a base.
+fn near_place(rng: &mut Random) -> Operand {
+    let base = rng.below(6) as u8;
+    let offset = rng.below(4) as u8;
+    match rng.below(12) {
+        0..=5 => Register(base),
+        6 => Cell(rng.pick(&[0, 128, 256]) + offset as u16),
+        7 | 8 => Table { base, offset },
+        9 => Public { base, offset },
+        10 => Sensitive { base, offset },
+        _ => any_place(rng),
+    }
+}
+
+fn near_argument(rng: &mut Random) -> Operand {
+    if rng.one_in(6) {
+        literal(rng)
+    } else {
+        near_place(rng)
+    }
+}
+
+/// A program over few places. Mostly a destination is cleared before it is written, as
+/// the macros do: otherwise hardly any step with several values is without leak.
+fn near_program(rng: &mut Random) -> Vec<Line> {
+    let count = length(rng).min(40);
+    let mut lines = vec![];
+    while lines.len() < count {
+        let opcode = match rng.below(8) {
+            0 => OPCODES[rng.below(OPCODES.len())].0,
+            1 => rng.pick(&[Opcode::Beq, Opcode::Bne]),
+            2..=4 => rng.pick(&[Opcode::Mov, Opcode::Xor]),
+            _ => OPCODES[rng.within(2, 10)].0,
+        };
+        let marked = rng.one_in(2);
+        let mut line = line(rng, marked, opcode, near_place, near_argument, count);
+        match rng.below(6) {
+            0 => line.second = line.second.and(line.first),
+            1 => line.first = line.first.map(|first| line.destination.unwrap_or(first)),
+            2 => line.second = line.second.map(|second| line.destination.unwrap_or(second)),
+            _ => (),
+        }
+        if line.destination.is_some() && rng.below(3) > 0 {
+            lines.push(Line { opcode: Opcode::Mov, first: Some(Register(0)), second: None, ..line });
+        }
+        lines.push(line);
+    }
+    lines
+}
+
+/// The sets of all images with the public places of this one, now and then of fewer.
+pub fn image_sets(rng: &mut Random, image: &[u8]) -> Vec<Vec<u8>> {
+    let fewer = rng.one_in(4);
+    let mut sets: Vec<Vec<u8>> = vec![];
+    for (place, &value) in image.iter().enumerate() {
+        let both = kind_of_place(place) == Kind::Sensitive && !(fewer && rng.one_in(2));
+        sets.push(if both { rng.pick(&[[1, 2], [2, 1]]).to_vec() } else { vec![value] });
+    }
+    sets
+}
+
+/// Any sets, alike in how many places have several values, and in the ones of each value.
+fn free_sets(rng: &mut Random) -> Vec<Vec<u8>> {
+    let ones = rng.pick(&[None, Some(1), Some(1), Some(2)]);
+    let single = rng.pick(&[1, 2, 8, 30]);
+    let wide = rng.one_in(4);
+    let mut sets: Vec<Vec<u8>> = vec![];
+    for _ in 0..STATE {
+        sets.push(match rng.below(single + 2) {
+            0 if wide => wide_set(rng),
+            0 | 1 => (0..rng.within(2, 4)).map(|_| some_value(rng, ones)).collect(),
+            2 => vec![some_value(rng, ones)],
+            _ => vec![rng.pick(&[0, 0, 1, 2, 3])],
+        });
+        if rng.one_in(50) {
+            // As a base of `!` or `%`, both reach the same cell.
+            let value = some_value(rng, ones);
+            sets.push(vec![value, value ^ 128]);
+        }
+    }
+    sets.truncate(STATE);
+    if !rng.one_in(4) {
+        sets[0] = vec![0];
+    }
+    sets
+}
+
+/// Many values: neighbours, so that sums of two such sets are often 16 or 17, or values
+/// with four ones each.
+fn wide_set(rng: &mut Random) -> Vec<u8> {
+    let count = rng.pick(&[2, 5, 8, 9, 10, MOST_VALUES - 1, MOST_VALUES]);
+    if rng.below(3) > 0 {
+        let low = rng.below(256 - count);
+        return (low..low + count).map(|value| value as u8).collect();
+    }
+    let mut values = vec![];
+    while values.len() < count {
+        let value = rng.byte();
+        if value.count_ones() == 4 && !values.contains(&value) {
+            values.push(value);
+        }
+    }
+    values
+}
+
+/// Lines over few places, of which four at most have several values.
+pub fn small_walk(rng: &mut Random) -> (Vec<Line>, Vec<Vec<u8>>) {
+    let lines = near_program(rng);
+    let ones = rng.pick(&[None, Some(1), Some(2)]);
+    let mut sets: Vec<Vec<u8>> = (0..STATE).map(|_| vec![rng.pick(&[0, 0, 1, 2])]).collect();
+    for _ in 0..rng.within(1, 4) {
+        let near = rng.pick(&[0, 0, 0, 32, 32 + 128, 32 + 256]) + rng.below(6);
+        sets[near] = (0..rng.within(2, 3)).map(|_| some_value(rng, ones)).collect();
+    }
+    (lines, sets)
+}
+
+/// All states that the sets allow.
+pub fn all_states(sets: &[Vec<u8>]) -> Vec<Vec<u8>> {
+    let mut states: Vec<Vec<u8>> = vec![sets.iter().map(|values| values[0]).collect()];
+    for (place, values) in sets.iter().enumerate().filter(|(_, values)| values.len() > 1) {
+        let mut more = vec![];
+        for mut state in states {
+            for &value in values {
+                state[place] = value;
+                more.push(state.clone());
+            }
+        }
+        states = more;
+    }
+    states
+}
+
+/// A value, with this many ones or any; small ones reach the few cells of `near_place`.
+fn some_value(rng: &mut Random, ones: Option<u32>) -> u8 {
+    let small = rng.below(4) > 0;
+    loop {
+        let value = if small { rng.below(16) as u8 } else { rng.byte() };
+        if ones.is_none_or(|ones| value.count_ones() == ones) {
+            return value;
+        }
+    }
+}
+
+/// The sets as they are lent, with anything in the rest and values listed again.
+pub fn set_bytes(rng: &mut Random, sets: &[Vec<u8>]) -> Vec<u8> {
+    let junk = rng.one_in(2);
+    let again = rng.one_in(4);
+    let mut bytes = vec![];
+    for values in sets {
+        let mut listed = values.clone();
+        while again && listed.len() < MOST_VALUES && rng.one_in(2) {
+            listed.insert(rng.below(listed.len() + 1), rng.pick(values));
+        }
+        bytes.push(listed.len() as u8);
+        bytes.extend_from_slice(&listed);
+        bytes.extend((listed.len()..MOST_VALUES).map(|_| if junk { rng.byte() } else { 0 }));
+    }
+    bytes
+}
+
+/// Makes a set empty or too long, or the lent sets of another length, or both.
+pub fn damage_sets(rng: &mut Random, bytes: &mut Vec<u8>) {
+    let whole = SET * STATE;
+    let which = rng.below(4);
+    if which > 0 {
+        let any = rng.below(STATE);
+        let place = rng.pick(&[0, STATE - 1, any]);
+        bytes[SET * place] = rng.pick(&[0, MOST_VALUES as u8 + 1, 255]);
+    }
+    if which < 2 {
+        let any = rng.below(2 * whole);
+        let size = rng.pick(&[0, 1, SET, STATE, whole - SET, whole - 1, whole + 1, whole + SET, any]);
+        bytes.resize(if size == whole { whole + 1 } else { size }, 1);
+    }
+}
+
+/// A state with one of its values in each place.
+pub fn drawn_state(rng: &mut Random, sets: &[Vec<u8>]) -> Vec<u8> {
+    sets.iter().map(|values| rng.pick(values)).collect()
 }

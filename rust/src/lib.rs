@@ -1,5 +1,5 @@
 //! The dual-rail library from Rust: safe functions over the static library,
-//! document 01 once more in Rust, and the comparison of both.
+//! the paper once more in Rust, and the comparison of both.
 
 pub mod answer;
 pub mod compare;

@@ -1,8 +1,10 @@
 //! Document 01 once more, written from the paper alone (and from
-//! docs/STORED-LINES.md, which it asks for), for clarity and not for speed.
-//! The test compares the library with this.
+//! docs/STORED-LINES.md, which it asks for), for clarity and not for speed;
+//! the requests of document 02 likewise. The test compares the library with this.
 
 use crate::answer::{Answer, Dualrail};
+
+pub mod walk;
 
 /// Bytes of a state: the registers, then the cells.
 pub const STATE: usize = 32 + 512;
@@ -603,7 +605,7 @@ fn value(operand: Option<Operand>, state: &[u8]) -> u8 {
 }
 
 /// One step: the next counter and the trace row.
-fn step(line: &Line, counter: u16, state: &mut [u8]) -> (u16, [u16; ROW]) {
+pub fn step(line: &Line, counter: u16, state: &mut [u8]) -> (u16, [u16; ROW]) {
     let a = value(line.first, state);
     let b = value(line.second, state);
     let mut row = [
@@ -692,5 +694,8 @@ impl Dualrail for Paper {
     }
     fn run(&self, program: &[u16], start: u16, budget: u16, state: &mut [u8], trace: &mut [u16]) -> Answer {
         stored_program(program).map_or_else(|answer| answer, |lines| run(&lines, start, budget, state, trace))
+    }
+    fn judge(&self, program: &[u16], sets: &[u8], budget: u16) -> Answer {
+        stored_program(program).map_or_else(|answer| answer, |lines| walk::judge(&lines, sets, budget))
     }
 }

@@ -19,6 +19,13 @@ extern "C" {
         trace: *mut u16,
         trace_length: usize,
     ) -> u64;
+    fn plain_judge(
+        program: *const u16,
+        program_length: usize,
+        sets: *const u8,
+        sets_length: usize,
+        budget: u16,
+    ) -> u64;
 }
 
 /// Plain C as one of the implementations; it packs its answers as the library does.
@@ -48,6 +55,11 @@ impl Dualrail for Plain {
         Answer::from_run(unsafe {
             plain_run(program.as_ptr(), program.len(), start, budget,
                 state.as_mut_ptr(), state.len(), trace.as_mut_ptr(), trace.len())
+        })
+    }
+    fn judge(&self, program: &[u16], sets: &[u8], budget: u16) -> Answer {
+        Answer::from_judge(unsafe {
+            plain_judge(program.as_ptr(), program.len(), sets.as_ptr(), sets.len(), budget)
         })
     }
 }

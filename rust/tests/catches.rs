@@ -2,8 +2,9 @@
 //! with one fault each.
 
 use dualrail::compare::compare;
+use dualrail::paper::walk::{self, reach, step_on_sets, Stop, Values, MOST_VALUES, SET};
 use dualrail::paper::{
-    starts, stored_program, Line, Opcode, Operand, Paper, MOST_CHECKED, MOST_LINES, ROW, SIX,
+    starts, step, stored_program, Line, Opcode, Operand, Paper, MOST_CHECKED, MOST_LINES, ROW, SIX,
 };
 use dualrail::Answer::{self, *};
 use dualrail::Dualrail;
@@ -17,6 +18,7 @@ struct Variant {
     to_image: fn(&[u8], &mut [u8]) -> Answer,
     from_image: fn(&[u8], &mut [u8]) -> Answer,
     run: fn(&[u16], u16, u16, &mut [u8], &mut [u16]) -> Answer,
+    judge: fn(&[u16], &[u8], u16) -> Answer,
 }
 
 const RIGHT: Variant = Variant {
@@ -28,6 +30,7 @@ const RIGHT: Variant = Variant {
     to_image: |bits, image| Paper.to_image(bits, image),
     from_image: |image, bits| Paper.from_image(image, bits),
     run: |program, start, budget, state, trace| Paper.run(program, start, budget, state, trace),
+    judge: |program, sets, budget| Paper.judge(program, sets, budget),
 };
 
 impl Dualrail for Variant {
@@ -51,6 +54,9 @@ impl Dualrail for Variant {
     }
     fn run(&self, program: &[u16], start: u16, budget: u16, state: &mut [u8], trace: &mut [u16]) -> Answer {
         (self.run)(program, start, budget, state, trace)
+    }
+    fn judge(&self, program: &[u16], sets: &[u8], budget: u16) -> Answer {
+        (self.judge)(program, sets, budget)
     }
 }
 
@@ -98,6 +104,86 @@ fn changed_run(
     lines.iter_mut().for_each(change);
     let program: Vec<u16> = lines.iter().flat_map(Line::stored).collect();
     Paper.run(&program, start, budget, state, trace)
+}
+
+/// Walks with another step.
+fn changed_walk(
+    (program, sets, budget): (&[u16], &[u8], u16),
+    step: fn(&Line, u16, &mut [Values]) -> Result<u16, Stop>,
+) -> Answer {
+    match (stored_program(program), walk::start(sets)) {
+        (Ok(lines), Ok(sets)) => walk::walk(&lines, sets, budget, step),
+        _ => Paper.judge(program, sets, budget),
+    }
+}
+
+/// Walks with changed sets.
+fn changed_sets((program, sets, budget): (&[u16], &[u8], u16), change: fn(&mut [u8])) -> Answer {
+    let mut sets = sets.to_vec();
+    sets.chunks_exact_mut(SET).for_each(change);
+    Paper.judge(program, &sets, budget)
+}
+
+/// The right step with one of the registers given values of its own for the moment.
+fn with_values(
+    (line, counter): (&Line, u16),
+    sets: &mut [Values],
+    register: u8,
+    values: Values,
+) -> Result<u16, Stop> {
+    let kept = std::mem::replace(&mut sets[register as usize], values);
+    let written = line.destination.map_or_else(Default::default, |operand| reach(operand, sets));
+    let next = step_on_sets(line, counter, sets);
+    if !written.contains(&(register as usize)) {
+        sets[register as usize] = kept;
+    }
+    next
+}
+
+/// A register that the line does not name.
+fn spare(line: &Line) -> u8 {
+    let spelling = line.spelling();
+    (16..32).find(|register| !spelling.contains(&format!("r{register}"))).unwrap()
+}
+
+/// The row of a step, and the values of the places written.
+type Outcome = ([u16; ROW], Values);
+
+/// What the choices of a step give, in their order.
+fn outcomes(line: &Line, counter: u16, sets: &[Values]) -> Vec<Outcome> {
+    let written = line.destination.map_or_else(Default::default, |operand| reach(operand, sets));
+    let mut outcomes = vec![];
+    walk::choices(line, sets, &mut |state| {
+        let mut after = *state;
+        let (_, row) = step(line, counter, &mut after);
+        outcomes.push((row, written.iter().map(|&place| after[place]).collect()));
+    });
+    outcomes
+}
+
+/// All values that a step may write.
+fn results(line: &Line, counter: u16, sets: &[Values]) -> Values {
+    outcomes(line, counter, sets).into_iter().flat_map(|(_, values)| values).collect()
+}
+
+/// The right step, with its leak test made by another one.
+fn changed_test(
+    line: &Line,
+    counter: u16,
+    sets: &mut [Values],
+    alike: fn(&[Outcome]) -> bool,
+) -> Result<u16, Stop> {
+    let outcomes = outcomes(line, counter, sets);
+    let written = line.destination.map_or_else(Default::default, |operand| reach(operand, sets));
+    match step_on_sets(line, counter, sets) {
+        Err(Stop::Leak) if alike(&outcomes) => {
+            for place in written {
+                sets[place] = outcomes.iter().flat_map(|(_, values)| values.clone()).collect();
+            }
+            Ok(counter + 1)
+        }
+        answer => answer,
+    }
 }
 
 fn variants() -> Vec<Variant> {
@@ -520,6 +606,289 @@ fn variants() -> Vec<Variant> {
                     state[0] = old.unwrap();
                 }
                 answer
+            },
+            ..RIGHT
+        },
+        // Walks.
+        Variant {
+            fault: "a place that is both arguments takes two values",
+            judge: |program, sets, budget| {
+                changed_walk((program, sets, budget), |line, counter, sets| {
+                    let Some(Operand::Register(register)) = line.second.filter(|_| line.first == line.second)
+                    else {
+                        return step_on_sets(line, counter, sets);
+                    };
+                    let other = spare(line);
+                    let line = Line { second: Some(Operand::Register(other)), ..*line };
+                    with_values((&line, counter), sets, other, sets[register as usize].clone())
+                })
+            },
+            ..RIGHT
+        },
+        Variant {
+            fault: "the old value is drawn apart from the argument",
+            judge: |program, sets, budget| {
+                changed_walk((program, sets, budget), |line, counter, sets| {
+                    let Some(Operand::Register(register)) =
+                        line.first.filter(|_| line.first == line.destination)
+                    else {
+                        return step_on_sets(line, counter, sets);
+                    };
+                    let other = spare(line);
+                    let line = Line { first: Some(Operand::Register(other)), ..*line };
+                    with_values((&line, counter), sets, other, sets[register as usize].clone())
+                })
+            },
+            ..RIGHT
+        },
+        Variant {
+            fault: "a base of several values takes its first one",
+            judge: |program, sets, budget| {
+                changed_walk((program, sets, budget), |line, counter, sets| match line.first {
+                    Some(Operand::Table { base, .. }) if line.opcode == Opcode::Mov => {
+                        let first = sets[base as usize].first().copied();
+                        with_values((line, counter), sets, base, first.into_iter().collect())
+                    }
+                    _ => step_on_sets(line, counter, sets),
+                })
+            },
+            ..RIGHT
+        },
+        Variant {
+            fault: "the written place keeps one result",
+            judge: |program, sets, budget| {
+                changed_walk((program, sets, budget), |line, counter, sets| {
+                    let written = line.destination.map_or_else(Default::default, |to| reach(to, sets));
+                    let next = step_on_sets(line, counter, sets)?;
+                    for place in written {
+                        sets[place] = sets[place].first().copied().into_iter().collect();
+                    }
+                    Ok(next)
+                })
+            },
+            ..RIGHT
+        },
+        Variant {
+            fault: "the written place keeps its old values too",
+            judge: |program, sets, budget| {
+                changed_walk((program, sets, budget), |line, counter, sets| {
+                    let old = sets.to_vec();
+                    let next = step_on_sets(line, counter, sets)?;
+                    for (set, old) in sets.iter_mut().zip(old) {
+                        set.extend(old);
+                    }
+                    Ok(next)
+                })
+            },
+            ..RIGHT
+        },
+        Variant {
+            fault: "the leak test looks at the first and the last choice",
+            judge: |program, sets, budget| {
+                changed_walk((program, sets, budget), |line, counter, sets| {
+                    changed_test(line, counter, sets, |outcomes| {
+                        outcomes[0].0 == outcomes[outcomes.len() - 1].0
+                    })
+                })
+            },
+            ..RIGHT
+        },
+        Variant {
+            fault: "the leak test does not look at addresses",
+            judge: |program, sets, budget| {
+                changed_walk((program, sets, budget), |line, counter, sets| {
+                    changed_test(line, counter, sets, |outcomes| {
+                        outcomes.iter().all(|(row, _)| row[..3] == outcomes[0].0[..3])
+                    })
+                })
+            },
+            ..RIGHT
+        },
+        Variant {
+            fault: "the leak test does not look at changed bits",
+            judge: |program, sets, budget| {
+                changed_walk((program, sets, budget), |line, counter, sets| {
+                    changed_test(line, counter, sets, |outcomes| {
+                        outcomes
+                            .iter()
+                            .all(|(row, _)| row[1] == outcomes[0].0[1] && row[3..] == outcomes[0].0[3..])
+                    })
+                })
+            },
+            ..RIGHT
+        },
+        Variant {
+            fault: "22 before 21",
+            judge: |program, sets, budget| {
+                changed_walk((program, sets, budget), |line, counter, sets| {
+                    match step_on_sets(line, counter, sets) {
+                        Err(Stop::Refused(21)) if results(line, counter, sets).len() > MOST_VALUES => {
+                            Err(Stop::Refused(22))
+                        }
+                        answer => answer,
+                    }
+                })
+            },
+            ..RIGHT
+        },
+        Variant {
+            fault: "the leak before 22",
+            judge: |program, sets, budget| {
+                changed_walk((program, sets, budget), |line, counter, sets| {
+                    match step_on_sets(line, counter, sets) {
+                        Err(Stop::Refused(22)) => Err(Stop::Leak),
+                        answer => answer,
+                    }
+                })
+            },
+            ..RIGHT
+        },
+        Variant {
+            fault: "the leak before 21",
+            judge: |program, sets, budget| {
+                changed_walk((program, sets, budget), |line, counter, sets| {
+                    let outcomes = outcomes(line, counter, sets);
+                    match step_on_sets(line, counter, sets) {
+                        Err(Stop::Refused(21)) if outcomes.iter().any(|(row, _)| *row != outcomes[0].0) => {
+                            Err(Stop::Leak)
+                        }
+                        answer => answer,
+                    }
+                })
+            },
+            ..RIGHT
+        },
+        Variant {
+            fault: "22 from 16 values on",
+            judge: |program, sets, budget| {
+                changed_walk((program, sets, budget), |line, counter, sets| {
+                    let count = results(line, counter, sets).len();
+                    match step_on_sets(line, counter, sets) {
+                        Ok(_) | Err(Stop::Leak) if count == MOST_VALUES => Err(Stop::Refused(22)),
+                        answer => answer,
+                    }
+                })
+            },
+            ..RIGHT
+        },
+        Variant {
+            fault: "22 from 18 values on",
+            judge: |program, sets, budget| {
+                changed_walk((program, sets, budget), |line, counter, sets| {
+                    let count = results(line, counter, sets).len();
+                    match step_on_sets(line, counter, sets) {
+                        Err(Stop::Refused(22)) if count == MOST_VALUES + 1 => Err(Stop::Leak),
+                        answer => answer,
+                    }
+                })
+            },
+            ..RIGHT
+        },
+        Variant {
+            fault: "21 looks at the cell reached, not at the base",
+            judge: |program, sets, budget| {
+                changed_walk((program, sets, budget), |line, counter, sets| match line.destination {
+                    Some(operand @ (Operand::Public { base, .. } | Operand::Sensitive { base, .. }))
+                        if reach(operand, sets).len() == 1 =>
+                    {
+                        let first = sets[base as usize].first().copied();
+                        with_values((line, counter), sets, base, first.into_iter().collect())
+                    }
+                    _ => step_on_sets(line, counter, sets),
+                })
+            },
+            ..RIGHT
+        },
+        Variant {
+            fault: "21 not where a branch compares a place with itself",
+            judge: |program, sets, budget| {
+                changed_walk((program, sets, budget), |line, counter, sets| {
+                    let branch = matches!(line.opcode, Opcode::Beq | Opcode::Bne);
+                    match step_on_sets(line, counter, sets) {
+                        Err(Stop::Refused(21)) if branch && line.first == line.second => Ok(counter + 1),
+                        answer => answer,
+                    }
+                })
+            },
+            ..RIGHT
+        },
+        Variant {
+            fault: "a value listed twice is two",
+            judge: |program, sets, budget| {
+                let counted = |operand: Option<Operand>| match operand {
+                    Some(Operand::Register(register)) => sets[SET * register as usize] > 1,
+                    _ => false,
+                };
+                match (Paper.judge(program, sets, budget), stored_program(program)) {
+                    (Balanced { steps: 1.., .. } | Spent { steps: 1.., .. }, Ok(lines))
+                        if matches!(lines[0].opcode, Opcode::Beq | Opcode::Bne)
+                            && (counted(lines[0].first) || counted(lines[0].second)) =>
+                    {
+                        refused(21)
+                    }
+                    (answer, _) => answer,
+                }
+            },
+            ..RIGHT
+        },
+        Variant {
+            fault: "a byte of the rest is a value too",
+            judge: |program, sets, budget| {
+                changed_sets((program, sets, budget), |set| {
+                    if (1..MOST_VALUES as u8).contains(&set[0]) {
+                        set[0] += 1;
+                    }
+                })
+            },
+            ..RIGHT
+        },
+        Variant {
+            fault: "an empty set passes",
+            judge: |program, sets, budget| {
+                changed_sets((program, sets, budget), |set| set[0] = set[0].max(1))
+            },
+            ..RIGHT
+        },
+        Variant {
+            fault: "a longer set is cut",
+            judge: |program, sets, budget| {
+                changed_sets((program, sets, budget), |set| set[0] = set[0].min(MOST_VALUES as u8))
+            },
+            ..RIGHT
+        },
+        Variant {
+            fault: "22 of the start before 18",
+            judge: |program, sets, budget| match Paper.judge(program, sets, budget) {
+                Refused { number: 18, .. }
+                    if sets.chunks_exact(SET).any(|set| !(1..=MOST_VALUES as u8).contains(&set[0])) =>
+                {
+                    refused(22)
+                }
+                answer => answer,
+            },
+            ..RIGHT
+        },
+        Variant {
+            fault: "the start before the program's check",
+            judge: |program, sets, budget| match walk::start(sets) {
+                Ok(_) => Paper.judge(program, sets, budget),
+                Err(answer) => answer,
+            },
+            ..RIGHT
+        },
+        Variant {
+            fault: "a walk's last step of the budget leaves it spent",
+            judge: |program, sets, budget| match Paper.judge(program, sets, budget) {
+                Balanced { counter, steps } if steps == budget && steps > 0 => Spent { counter, steps },
+                answer => answer,
+            },
+            ..RIGHT
+        },
+        Variant {
+            fault: "the step of the leak is counted",
+            judge: |program, sets, budget| match Paper.judge(program, sets, budget) {
+                Leak { line, steps } => Leak { line, steps: steps + 1 },
+                answer => answer,
             },
             ..RIGHT
         },

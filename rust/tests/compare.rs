@@ -4,13 +4,13 @@ use dualrail::compare::compare;
 use dualrail::plain::Plain;
 use dualrail::Library;
 
-const CASES: u64 = 60_000;
+const CASES: u64 = 78_000;
 
 fn from_environment(name: &str) -> Option<u64> {
     std::env::var(name).ok().map(|value| value.parse().expect("a number"))
 }
 
-/// Every refusal and the long way must be met often. Another seed, more cases, or one case
+/// Every refusal, every verdict and the long way must be met often. Another seed, more cases, or one case
 /// alone are had by DUALRAIL_SEED, DUALRAIL_CASES, DUALRAIL_CASE in the environment.
 #[test]
 fn library_against_paper() {
@@ -27,6 +27,14 @@ fn library_against_paper() {
         assert!(count >= 300, "refusal {number} came {count} times only");
     }
     assert!(counts.halted >= 10_000 && counts.spent >= 10_000 && counts.whole_runs >= 10_000);
+    for number in [3, 4, 5, 6, 7, 18, 21, 22] {
+        let count = counts.refused_walks[number];
+        assert!(count >= 50, "walks were refused with {number} {count} times only");
+    }
+    assert!(counts.balanced >= 1_000 && counts.spent_walks >= 1_000 && counts.leaks >= 1_000);
+    assert!(
+        counts.crowded >= 100 && counts.leaks_shown >= 500 && counts.exact.iter().all(|&count| count >= 300)
+    );
 }
 
 /// The measure of the benchmark does the same job.

@@ -1,5 +1,6 @@
-//! The edges and examples that the paper prints.
+//! The edges and examples that the paper prints, and a few for the walk.
 
+use dualrail::paper::walk::SET;
 use dualrail::paper::{Paper, ROW, SIX, STATE};
 use dualrail::plain::Plain;
 use dualrail::Answer::{self, *};
@@ -104,6 +105,59 @@ fn machine() {
         let mut trace = [0; ROW];
         on.run(&stored(on, "u,add,%r4+127,@261,#251,\n"), 0, 1, &mut state, &mut trace);
         assert_eq!((state[32 + 128], trace), (2, [0, 1, 2, 3, 0, 1]));
+    });
+}
+
+/// The verdict, all places being 0 but for these, budget 9.
+fn verdict(on: &dyn Dualrail, text: &str, places: &[(usize, &[u8])]) -> Answer {
+    let mut sets = [[0; SET]; STATE];
+    sets.iter_mut().for_each(|set| set[0] = 1);
+    for &(place, values) in places {
+        sets[place][0] = values.len() as u8;
+        sets[place][1..=values.len()].copy_from_slice(values);
+    }
+    on.judge(&stored(on, text), &sets.concat(), 9)
+}
+
+#[test]
+fn walk() {
+    each(|on| {
+        let balanced = |steps: u16| Balanced { counter: steps, steps };
+        assert_eq!(verdict(on, "", &[]), balanced(0));
+        assert_eq!(verdict(on, "u,jmp,,,,0\n", &[]), Spent { counter: 0, steps: 9 });
+        assert_eq!(verdict(on, "u,jmp,,,,7\n", &[]), Balanced { counter: 7, steps: 1 });
+        // The written place gets all results, and none else.
+        assert_eq!(verdict(on, "u,mov,r4,r5,,\n", &[(5, &[1, 2])]), balanced(1));
+        assert_eq!(verdict(on, "u,mov,r4,r5,,\n", &[(5, &[1, 3])]), Leak { line: 0, steps: 0 });
+        let twice = "u,mov,r4,r5,,\nu,add,r6,r4,#1,\n";
+        assert_eq!(verdict(on, twice, &[(5, &[1, 2])]), Leak { line: 1, steps: 1 });
+        assert_eq!(verdict(on, "u,mov,r4,#0,,\nu,beq,,r4,#0,2\n", &[(4, &[1, 2])]), balanced(2));
+        // A place used twice takes one value.
+        assert_eq!(verdict(on, "u,xor,r4,r4,r4,\n", &[(4, &[1, 2, 4])]), balanced(1));
+        assert_eq!(
+            verdict(on, "u,xor,r4,r4,r5,\n", &[(4, &[1, 2]), (5, &[1, 2])]),
+            Leak { line: 0, steps: 0 }
+        );
+        // A read draws on each cell that the base reaches, which the base's value decides.
+        let cells: &[(usize, &[u8])] = &[(1, &[1, 2]), (32 + 257, &[2]), (32 + 258, &[1])];
+        assert_eq!(verdict(on, "u,mov,r4,^r1+0,,\n", cells), balanced(1));
+        assert_eq!(verdict(on, "u,mov,r1,^r1+0,,\n", cells), balanced(1));
+        assert_eq!(verdict(on, "u,mov,r4,^r1+1,,\n", cells), Leak { line: 0, steps: 0 });
+        // 21, also where both values of a base reach one cell, or a place is compared with itself.
+        assert_eq!(verdict(on, "u,mov,!r5+0,#0,,\n", &[(5, &[0, 128])]), refused(21, 0));
+        assert_eq!(verdict(on, "u,nop,,,,\nu,beq,,r5,r5,0\n", &[(5, &[0, 1])]), refused(21, 1));
+        assert_eq!(verdict(on, "u,beq,,r5,#7,0\n", &[(5, &[7, 7])]), Spent { counter: 0, steps: 9 });
+        // 22 from 17 results on, before the leak and after 21.
+        let many: Vec<u8> = (0..16).collect();
+        assert_eq!(verdict(on, "u,orr,r4,r5,r6,\n", &[(5, &many), (6, &[0, 8])]), Leak { line: 0, steps: 0 });
+        assert_eq!(verdict(on, "u,add,r4,r5,r6,\n", &[(5, &many), (6, &[0, 1])]), refused(22, 0));
+        let based: &[(usize, &[u8])] = &[(5, &many), (6, &[0, 1]), (7, &[0, 1])];
+        assert_eq!(verdict(on, "u,add,!r7+0,r5,r6,\n", based), refused(21, 0));
+        // The start: 18, then 22; the program before both.
+        assert_eq!(on.judge(&[], &[0; SET * STATE - 1], 0), refused(18, 0));
+        assert_eq!(on.judge(&[], &[0; SET * STATE], 0), refused(22, 0));
+        assert_eq!(on.judge(&[], &[17; SET * STATE], 0), refused(22, 0));
+        assert_eq!(on.judge(&[0, 0, 0, 0, 0, 0, 2, 0, 0, 0, 0, 0], &[], 0), refused(3, 1));
     });
 }
 

@@ -1,0 +1,149 @@
+//! Request 01 of document 02, the walk over sets, from the paper alone like the
+//! rest: every choice of values is made, one after the other, and the machine's
+//! own step is done in each.
+
+use super::{base, place, refused, step, Line, Opcode, Operand, STATE};
+use crate::answer::Answer;
+use std::collections::BTreeSet;
+
+/// Most values of a place, and the bytes of a lent set: their count, then the values.
+pub const MOST_VALUES: usize = 16;
+pub const SET: usize = 1 + MOST_VALUES;
+
+/// The values that a place may have; one listed twice is one value.
+pub type Values = BTreeSet<u8>;
+
+/// What ends a walk before the run's own end: a refusal's number, or a leak.
+pub enum Stop {
+    Refused(u16),
+    Leak,
+}
+
+/// Lent bytes as one set of values for each place; else the refusal of the start.
+pub fn start(bytes: &[u8]) -> Result<Vec<Values>, Answer> {
+    if bytes.len() != SET * STATE {
+        return Err(refused(18, 0));
+    }
+    bytes
+        .chunks_exact(SET)
+        .map(|set| match set[0] as usize {
+            count @ 1..=MOST_VALUES => Ok(set[1..=count].iter().copied().collect()),
+            _ => Err(refused(22, 0)),
+        })
+        .collect()
+}
+
+/// Each of the places takes each of its values, whatever the others take.
+fn draw(places: &[usize], sets: &[Values], state: &mut [u8; STATE], visit: &mut dyn FnMut(&[u8; STATE])) {
+    let Some((&first, rest)) = places.split_first() else {
+        return visit(state);
+    };
+    for &value in &sets[first] {
+        state[first] = value;
+        draw(rest, sets, state, visit);
+    }
+}
+
+/// The places of base registers among these operands, each once.
+fn bases(operands: &[Operand]) -> Vec<usize> {
+    let once: BTreeSet<usize> =
+        operands.iter().filter_map(|&operand| base(operand)).map(usize::from).collect();
+    once.into_iter().collect()
+}
+
+/// Every choice of a step: a state for each, right in all places that the step looks at.
+/// The bases are drawn first, as they decide which cells the others are. A place that is
+/// two of these is drawn once.
+pub fn choices(line: &Line, sets: &[Values], visit: &mut dyn FnMut(&[u8; STATE])) {
+    let operands: Vec<Operand> = [line.first, line.second, line.destination].into_iter().flatten().collect();
+    let bases = bases(&operands);
+    draw(&bases, sets, &mut [0; STATE], &mut |state| {
+        let once: BTreeSet<usize> = operands.iter().filter_map(|&operand| place(operand, state)).collect();
+        let others: Vec<usize> = once.into_iter().filter(|place| !bases.contains(place)).collect();
+        draw(&others, sets, &mut state.clone(), visit);
+    });
+}
+
+/// Every place that an operand may be.
+pub fn reach(operand: Operand, sets: &[Values]) -> BTreeSet<usize> {
+    let mut places = BTreeSet::new();
+    draw(&bases(&[operand]), sets, &mut [0; STATE], &mut |state| places.extend(place(operand, state)));
+    places
+}
+
+/// Condition 21: a branch argument, its base or a destination's base has several values.
+pub fn undecided(line: &Line, sets: &[Values]) -> bool {
+    let several = |place: usize| sets[place].len() > 1;
+    let base_is = |operand: Operand| base(operand).is_some_and(|register| several(register as usize));
+    let place_is = |operand: Operand| reach(operand, sets).into_iter().any(several);
+    let arguments = match line.opcode {
+        Opcode::Beq | Opcode::Bne => [line.first, line.second],
+        _ => [None, None],
+    };
+    line.destination.is_some_and(base_is)
+        || arguments.into_iter().flatten().any(|operand| base_is(operand) || place_is(operand))
+}
+
+/// One step on sets: gives the next counter, and the written place gets all results.
+pub fn step_on_sets(line: &Line, counter: u16, sets: &mut [Values]) -> Result<u16, Stop> {
+    if undecided(line, sets) {
+        return Err(Stop::Refused(21));
+    }
+    // One place at most, as its base has one value.
+    let written = line.destination.map_or(BTreeSet::new(), |operand| reach(operand, sets));
+    let mut results = Values::new();
+    // What all choices must have in common; after 21, the next counter always is.
+    let mut outcomes = BTreeSet::new();
+    choices(line, sets, &mut |state| {
+        // Nothing that follows could change the answer.
+        if results.len() > MOST_VALUES {
+            return;
+        }
+        let mut after = *state;
+        outcomes.insert(step(line, counter, &mut after));
+        results.extend(written.iter().map(|&place| after[place]));
+    });
+    if results.len() > MOST_VALUES {
+        return Err(Stop::Refused(22));
+    }
+    let mut outcomes = outcomes.into_iter();
+    let (Some((next, _)), None) = (outcomes.next(), outcomes.next()) else {
+        return Err(Stop::Leak);
+    };
+    for place in written {
+        sets[place] = results.clone();
+    }
+    Ok(next)
+}
+
+/// The walk from line 0, with the step that it is made of.
+pub fn walk(
+    lines: &[Line],
+    mut sets: Vec<Values>,
+    budget: u16,
+    one_step: fn(&Line, u16, &mut [Values]) -> Result<u16, Stop>,
+) -> Answer {
+    let mut counter = 0;
+    let mut steps = 0;
+    while steps < budget && (counter as usize) < lines.len() {
+        match one_step(&lines[counter as usize], counter, &mut sets) {
+            Ok(next) => counter = next,
+            Err(Stop::Refused(number)) => return refused(number, counter as usize),
+            Err(Stop::Leak) => return Answer::Leak { line: counter, steps },
+        }
+        steps += 1;
+    }
+    if (counter as usize) < lines.len() {
+        Answer::Spent { counter, steps }
+    } else {
+        Answer::Balanced { counter, steps }
+    }
+}
+
+/// The verdict on a program, given 17 bytes for each place.
+pub(super) fn judge(lines: &[Line], sets: &[u8], budget: u16) -> Answer {
+    match start(sets) {
+        Ok(sets) => walk(lines, sets, budget, step_on_sets),
+        Err(answer) => answer,
+    }
+}
