@@ -11,6 +11,7 @@ pub mod paper;
 pub mod plain;
 pub mod random;
 pub mod simon;
+pub mod vectors;
 
 pub use answer::{Answer, Dualrail};
 

@@ -1,0 +1,171 @@
+//! Files of cases: an input, the answer, and what the lent memory holds
+//! afterwards. Each case is called and compared.
+//!
+//! A case is a block of `key value` lines ended by an empty line, the first of
+//! them `case NAME`; lines that start with `#` are comments.
+
+pub mod calls;
+pub mod parse;
+
+use crate::answer::Dualrail;
+use parse::Case;
+use std::panic::{catch_unwind, AssertUnwindSafe};
+use std::path::Path;
+
+/// How many requests of document 02 are in force: one more with each that lands.
+pub const IN_FORCE: u32 = 1;
+
+/// What the cases are called on.
+pub struct Tested<'a> {
+    pub library: &'a dyn Dualrail,
+    /// The folder of the two programs.
+    pub programs: &'a Path,
+    /// Requests in force.
+    pub in_force: u32,
+}
+
+/// Cases compared, and how many of them differ.
+#[derive(Clone, Copy, Debug, Default, PartialEq, Eq)]
+pub struct Tally {
+    pub cases: u32,
+    pub differ: u32,
+}
+
+impl Tested<'_> {
+    /// Calls each case of a file that holds with the requests in force; reports those that differ.
+    pub fn file(&self, contents: &str, report: &mut dyn FnMut(String)) -> Tally {
+        let mut tally = Tally::default();
+        for case in parse::cases(contents) {
+            let difference = match case.holds(self.in_force) {
+                Ok(false) => continue,
+                Ok(true) => self.difference(&case),
+                Err(unreadable) => Some(cannot_be_read(&unreadable)),
+            };
+            tally.cases += 1;
+            if let Some(difference) = difference {
+                tally.differ += 1;
+                report(format!("case {} differs\n{}{difference}", case.name, case.show()));
+            }
+        }
+        tally
+    }
+
+    /// What a case says and what came instead, if anything did.
+    fn difference(&self, case: &Case) -> Option<String> {
+        let called = match catch_unwind(AssertUnwindSafe(|| calls::call(self, case))) {
+            Ok(Ok(called)) => called,
+            Ok(Err(unreadable)) => return Some(cannot_be_read(&unreadable)),
+            Err(_) => return Some("  panic\n".to_string()),
+        };
+        if called.answer == called.expected && called.faults.is_empty() {
+            return None;
+        }
+        let faults: String = called.faults.lines().map(|fault| format!("  {fault}\n")).collect();
+        Some(format!("  expected {}\n  got {}\n{faults}", called.expected, called.answer))
+    }
+}
+
+fn cannot_be_read(reason: &str) -> String {
+    format!("  the case cannot be read: {reason}\n")
+}
+
+#[cfg(test)]
+mod tests {
+    use super::*;
+    use crate::paper::Paper;
+
+    /// A right case for each call, without its first two lines.
+    const RIGHT: [&str; 12] = [
+        "call read\ntext \"u,nop,,,,\\nx\"\nroom 13\nanswer refused 1 1\nwritten 6*0\n",
+        "call read\ntext repeat 2 \"u,nop,,,,\\n\"\nroom 13\nanswer count 2\nwritten repeat 2 6*0\n",
+        "call write\nprogram \"u,nop,,,,\\n\"\nroom 12\nanswer count 10\nout \"u,nop,,,,\\n\"\n",
+        "call write\nstored 1 2 3\nroom 0\nanswer count 0\nout \"\"\n",
+        "call check\nprogram \"u,nop,,,,\\n\"\nprogram \"s,nop,,,,\\n\"\nanswer refused 14 1\n",
+        "call expand\nlayout 0 0\nprogram \"u,jmp,,,,1\\n\"\nroom 8\nanswer count 1\nout \"u,jmp,,,,1\\n\"\n",
+        "call expand\nprogram \"s,jmp,,,,1\\n\"\nroom 8\nanswer refused 14 0\n",
+        "call to-image\nstate 16*00 01 527*00\nroom 544\nanswer count 544\nbytes \
+         16*00 01 15*02 128*00 128*02 5*00 010200000202 10*00 010100000102 10*00 020100000102 213*00\n",
+        "call from-image\nstate 543*00\nroom 544\nanswer refused 18 0\n",
+        "call run\nprogram \"u,mov,r4,#7,,\\n\"\nstate 544*00\nstart 0\nbudget 2\nroom 12\n\
+         answer halted 1 1\nrow 0 3 3 0 0 0\nchanged 4=7\n",
+        "call walk\nprogram \"u,mov,r4,r5,,\\nu,jmp,,,,1\\n\"\nvalues 544*00\nsets 5 6 1 2\nbudget 9\nanswer spent\n",
+        "call walk\nprogram \"\"\nvalues 544*00\nrest 9\nraw 3 17*00\nbudget 9\nanswer refused 22 0\n",
+    ];
+
+    fn tally(contents: &str, report: &mut dyn FnMut(String)) -> Tally {
+        Tested { library: &Paper, programs: Path::new("/nowhere"), in_force: 1 }.file(contents, report)
+    }
+
+    fn case(lines: &str) -> String {
+        format!("case a\nlanded 1 14\n{lines}\n")
+    }
+
+    #[test]
+    fn right_cases() {
+        let contents: String = RIGHT.map(case).concat();
+        let mut reports = String::new();
+        let found = tally(&contents, &mut |report| reports += &report);
+        assert_eq!(found, Tally { cases: RIGHT.len() as u32, differ: 0 }, "{reports}");
+    }
+
+    #[test]
+    fn cases_that_differ() {
+        let damages = [
+            (0, "refused 1 1", "refused 2 1"),
+            (0, "written 6*0\n", ""),
+            (1, "repeat 2 6*0", "repeat 2 5*0"),
+            (2, "out \"u", "out \"s"),
+            (3, "count 0", "count 1"),
+            (4, "14 1", "14 0"),
+            (5, "out \"u", "out \"s"),
+            (7, "01 15*02", "02 15*02"),
+            (8, "18 0", "18 0\nbytes 544*00"),
+            (9, "halted 1 1", "spent 1 1"),
+            (9, "row 0 3 3", "row 0 3 2"),
+            (9, "4=7", "4=6"),
+            (9, "changed 4=7", "note"),
+            (10, "spent", "balanced"),
+            (10, "sets 5 6 1 2", "sets 5 6 1 3"),
+            (11, "raw 3 17*00\n", ""),
+            // What cannot be read.
+            (0, "call read", "call reed"),
+            (0, "room 13", "room"),
+            (0, "room 13\n", ""),
+            (0, "room 13", "room 13\nroom 13"),
+            (0, "room 13", "room 5"),
+            (2, "program \"u", "program \"x"),
+            (2, "room 12", "room 12\nbudget 1"),
+            (5, "layout 0 0", "layout 1 0"),
+            (9, "row 0 3 3", "row 0 3"),
+            (9, "4=7", "544=7"),
+            (10, "sets 5 6", "sets 5 544"),
+            (10, "sets 5 6 1 2", "sets 5 6 1 256"),
+            (11, "raw 3 17*00", "raw 3 16*00"),
+        ];
+        for (which, from, to) in damages {
+            let damaged = RIGHT[which].replacen(from, to, 1);
+            assert_ne!(damaged, RIGHT[which], "{from} is not there");
+            let mut reports = vec![];
+            let found = tally(&case(&damaged), &mut |report| reports.push(report));
+            assert_eq!(found, Tally { cases: 1, differ: 1 }, "{damaged}");
+            assert!(reports[0].starts_with("case a differs\n  landed 1 14\n"), "{reports:?}");
+        }
+    }
+
+    #[test]
+    fn ranges_and_names() {
+        let lines = RIGHT[0].replacen("1 1", "2 2", 1);
+        let [outside, nameless] =
+            ["case a\nlanded 2 14\n", "landed 1 14\n"].map(|head| format!("{head}{lines}"));
+        assert_eq!(tally(&outside, &mut |_| ()), Tally { cases: 0, differ: 0 });
+        assert_eq!(tally(&nameless, &mut |_| ()), Tally { cases: 1, differ: 1 });
+    }
+
+    #[test]
+    fn programs_that_are_missing() {
+        let mut reports = String::new();
+        let lines = "call print-trace\ntext \"\"\nanswer printed 9\nout \"halted,0\\n\"\n";
+        assert_eq!(tally(&case(lines), &mut |report| reports += &report), Tally { cases: 1, differ: 1 });
+        assert!(reports.contains("rt check expand trace"), "{reports}");
+    }
+}

@@ -1,0 +1,332 @@
+//! What each case calls, and what it compares afterwards. Memory is lent with
+//! known contents and guard values around it, inputs too.
+
+use super::parse::{self, Case};
+use super::Tested;
+use crate::answer::Answer;
+use crate::lent::Lent;
+use crate::paper::walk::{MOST_VALUES, SET};
+use crate::paper::{ROW, SIX, STATE};
+use crate::random::Random;
+use std::fmt::Debug;
+use std::io::{ErrorKind, Write};
+use std::path::Path;
+use std::process::{Command, Stdio};
+
+/// What came of a case: both answers, and what else is not as it should be.
+pub struct Called {
+    pub expected: String,
+    pub answer: String,
+    pub faults: String,
+}
+
+type Call = fn(&Tested, &Case) -> Result<Called, String>;
+
+/// Makes the call of a case; an error is why that cannot be done.
+pub fn call(tested: &Tested, case: &Case) -> Result<Called, String> {
+    let (keys, call): (&[&str], Call) = match case.one("call")? {
+        "read" => (&["text", "room", "written"], read),
+        "write" => (&["program", "stored", "room", "out"], write),
+        "check" => (&["program", "stored"], check),
+        "expand" => (&["layout", "program", "stored", "room", "out"], expand),
+        "to-image" | "from-image" => (&["layout", "state", "room", "bytes"], image),
+        "run" => (&["program", "stored", "state", "start", "budget", "room", "row", "changed"], run),
+        "walk" => (&["program", "stored", "values", "sets", "raw", "rest", "length", "budget"], walk),
+        "print-expansion" | "print-trace" => (&["text", "out"], print),
+        other => return Err(format!("the call {other:?} is unknown")),
+    };
+    case.only(keys)?;
+    match case.optional("layout")? {
+        None | Some("0 0") => call(tested, case),
+        Some(layout) => Err(format!("the layout {layout:?} is not there yet")),
+    }
+}
+
+// ---------------------------------------------------------------- answers
+
+/// An answer as the cases write it.
+fn spelled(answer: Answer) -> String {
+    match answer {
+        Answer::Counted(count) => format!("count {count}"),
+        Answer::Halted { counter, steps } => format!("halted {counter} {steps}"),
+        Answer::Spent { counter, steps } => format!("spent {counter} {steps}"),
+        Answer::Balanced { .. } => "balanced".to_string(),
+        Answer::Leak { line, .. } => format!("leak {line}"),
+        Answer::Refused { number, line } => format!("refused {number} {line}"),
+    }
+}
+
+fn called(case: &Case, answer: Answer, faults: String) -> Result<Called, String> {
+    Ok(Called { expected: case.one("answer")?.to_string(), answer: spelled(answer), faults })
+}
+
+// ---------------------------------------------------------------- memory
+
+/// Memory and what it must hold afterwards: the same, but for what is expected to be written.
+struct Memory<T> {
+    name: &'static str,
+    lent: Lent<T>,
+    expected: Lent<T>,
+}
+
+impl<T: Copy + PartialEq + Debug> Memory<T> {
+    fn new(name: &'static str, contents: &[T], guard: fn(&mut Random) -> T) -> Memory<T> {
+        let lent = Lent::new(&mut Random::new(0), contents, guard);
+        Memory { name, expected: lent.clone(), lent }
+    }
+
+    /// A store of this size, its contents being free.
+    fn store(name: &'static str, size: usize, some: fn(&mut Random) -> T) -> Memory<T> {
+        let mut rng = Random::new(1);
+        let contents: Vec<T> = (0..size).map(|_| some(&mut rng)).collect();
+        Memory::new(name, &contents, some)
+    }
+
+    /// These are expected at the front.
+    fn expect(&mut self, written: &[T]) -> Result<(), String> {
+        let front = self.expected.part_mut().get_mut(..written.len());
+        front.ok_or("more is written than there is room")?.copy_from_slice(written);
+        Ok(())
+    }
+
+    fn part(&self) -> &[T] {
+        self.lent.part()
+    }
+
+    fn part_mut(&mut self) -> &mut [T] {
+        self.lent.part_mut()
+    }
+
+    fn fault(&self) -> String {
+        self.lent.differs(&self.expected, self.name)
+    }
+}
+
+fn input_bytes(contents: &[u8]) -> Memory<u8> {
+    Memory::new("input bytes changed", contents, Random::byte)
+}
+
+fn input_numbers(contents: &[u16]) -> Memory<u16> {
+    Memory::new("input numbers changed", contents, Random::number)
+}
+
+fn byte_store(case: &Case) -> Result<Memory<u8>, String> {
+    Ok(Memory::store("lent bytes", room(case)?, Random::byte))
+}
+
+fn number_store(case: &Case) -> Result<Memory<u16>, String> {
+    Ok(Memory::store("lent numbers", room(case)?, Random::number))
+}
+
+/// The room that a case lends; far more than any call can use is a slip.
+fn room(case: &Case) -> Result<usize, String> {
+    let room: u32 = case.number("room")?;
+    if room > 1 << 24 {
+        return Err("too much room".to_string());
+    }
+    Ok(room as usize)
+}
+
+/// The stored lines of a text.
+fn stored_lines(tested: &Tested, text: &[u8]) -> Result<Vec<u16>, String> {
+    let lines = text.iter().filter(|&&byte| byte == b'\n').count();
+    let mut store = vec![0; SIX * lines];
+    match tested.library.read(text, &mut store) {
+        Answer::Counted(count) if count as usize == lines => Ok(store),
+        answer => Err(format!("its lines are not read: {}", spelled(answer))),
+    }
+}
+
+/// The program handed in, as text or as numbers.
+fn program(tested: &Tested, case: &Case) -> Result<Memory<u16>, String> {
+    match (case.text("program")?, case.numbers("stored")?) {
+        (Some(text), None) => Ok(input_numbers(&stored_lines(tested, &text)?)),
+        (None, Some(numbers)) => Ok(input_numbers(&numbers)),
+        _ => Err("one of `program` and `stored` is wanted".to_string()),
+    }
+}
+
+// ---------------------------------------------------------------- calls
+
+fn read(tested: &Tested, case: &Case) -> Result<Called, String> {
+    let text = input_bytes(&case.text("text")?.ok_or("`text` is missing")?);
+    let mut store = number_store(case)?;
+    store.expect(&case.numbers("written")?.unwrap_or_default())?;
+    let answer = tested.library.read(text.part(), store.part_mut());
+    called(case, answer, text.fault() + &store.fault())
+}
+
+fn write(tested: &Tested, case: &Case) -> Result<Called, String> {
+    let program = program(tested, case)?;
+    let mut out = byte_store(case)?;
+    out.expect(&case.text("out")?.unwrap_or_default())?;
+    let answer = tested.library.write(program.part(), out.part_mut());
+    called(case, answer, program.fault() + &out.fault())
+}
+
+fn check(tested: &Tested, case: &Case) -> Result<Called, String> {
+    let program = program(tested, case)?;
+    let answer = tested.library.check(program.part());
+    called(case, answer, program.fault())
+}
+
+fn expand(tested: &Tested, case: &Case) -> Result<Called, String> {
+    let program = program(tested, case)?;
+    let mut out = number_store(case)?;
+    let text = case.text("out")?.unwrap_or_default();
+    out.expect(&stored_lines(tested, &text)?)?;
+    let answer = tested.library.expand(program.part(), out.part_mut());
+    called(case, answer, program.fault() + &out.fault())
+}
+
+fn image(tested: &Tested, case: &Case) -> Result<Called, String> {
+    let state = input_bytes(&case.bytes("state")?);
+    let mut lent = byte_store(case)?;
+    if case.optional("bytes")?.is_some() {
+        lent.expect(&case.bytes("bytes")?)?;
+    }
+    let answer = match case.one("call")? {
+        "to-image" => tested.library.to_image(state.part(), lent.part_mut()),
+        _ => tested.library.from_image(state.part(), lent.part_mut()),
+    };
+    called(case, answer, state.fault() + &lent.fault())
+}
+
+fn run(tested: &Tested, case: &Case) -> Result<Called, String> {
+    let program = program(tested, case)?;
+    let mut state = Memory::new("state", &case.bytes("state")?, Random::byte);
+    for changed in case.all("changed").iter().flat_map(|line| line.split(' ')) {
+        let (place, value) = changed.split_once('=').ok_or("`changed` without =")?;
+        let place: usize = parse::number(place)?;
+        *state.expected.part_mut().get_mut(place).ok_or("`changed` beyond the state")? =
+            parse::number(value)?;
+    }
+    let mut rows = vec![];
+    for row in case.all("row") {
+        let row: Vec<u16> = parse::list(row)?;
+        if row.len() != ROW {
+            return Err(format!("a row of {} numbers", row.len()));
+        }
+        rows.extend(row);
+    }
+    let mut trace = number_store(case)?;
+    trace.expect(&rows)?;
+    let (start, budget) = (case.number("start")?, case.number("budget")?);
+    let answer = tested.library.run(program.part(), start, budget, state.part_mut(), trace.part_mut());
+    called(case, answer, program.fault() + &state.fault() + &trace.fault())
+}
+
+fn walk(tested: &Tested, case: &Case) -> Result<Called, String> {
+    let program = program(tested, case)?;
+    let sets = input_bytes(&lent_sets(case)?);
+    let answer = tested.library.judge(program.part(), sets.part(), case.number("budget")?);
+    let called = called(case, answer, program.fault() + &sets.fault())?;
+    // Of a walk that is spent the cases give neither counter nor steps.
+    Ok(match answer {
+        Answer::Spent { .. } => Called { answer: "spent".to_string(), ..called },
+        _ => called,
+    })
+}
+
+/// The sets as they are lent: one value for each place, then other values for some, then
+/// whole sets as bytes, cut or filled up to the length.
+fn lent_sets(case: &Case) -> Result<Vec<u8>, String> {
+    let rest: u8 = case.optional("rest")?.map_or(Ok(0), parse::number)?;
+    let set = |values: &[u8]| -> Result<[u8; SET], String> {
+        if values.is_empty() || values.len() > MOST_VALUES {
+            return Err(format!("a set of {} values", values.len()));
+        }
+        let mut set = [rest; SET];
+        set[0] = values.len() as u8;
+        set[1..=values.len()].copy_from_slice(values);
+        Ok(set)
+    };
+    let values = case.bytes("values")?;
+    if values.len() != STATE {
+        return Err(format!("`values` of {} bytes", values.len()));
+    }
+    let mut sets = values.iter().map(|&value| set(&[value])).collect::<Result<Vec<_>, _>>()?;
+    for line in case.all("sets") {
+        let numbers: Vec<u16> = parse::list(line)?;
+        let [first, last, values @ ..] = &numbers[..] else {
+            return Err("`sets` without places".to_string());
+        };
+        let values: Vec<u8> = values
+            .iter()
+            .map(|&value| u8::try_from(value).map_err(|_| "a value above 255".to_string()))
+            .collect::<Result<_, _>>()?;
+        sets.get_mut(*first as usize..=*last as usize).ok_or("no such places")?.fill(set(&values)?);
+    }
+    for line in case.all("raw") {
+        let (place, whole) = line.split_once(' ').ok_or("`raw` without bytes")?;
+        let place: usize = parse::number(place)?;
+        let whole = parse::bytes(whole)?.try_into().map_err(|_| "`raw` is not a set's bytes")?;
+        *sets.get_mut(place).ok_or("no such place")? = whole;
+    }
+    let mut bytes = sets.concat();
+    if case.optional("length")?.is_some() {
+        bytes.resize(case.number::<u16>("length")? as usize, 0);
+    }
+    Ok(bytes)
+}
+
+// ---------------------------------------------------------------- programs
+
+fn print(tested: &Tested, case: &Case) -> Result<Called, String> {
+    let name = match case.one("call")? {
+        "print-expansion" => "expand",
+        _ => "trace",
+    };
+    let text = case.text("text")?.ok_or("`text` is missing")?;
+    let expected = case.one("answer")?.to_string();
+    let printed = output(&tested.programs.join(name), &text)?;
+    let right = match expected.strip_prefix("refused ") {
+        Some(refusal) => printed == format!("refused,{}\n", refusal.replace(' ', ",")).as_bytes(),
+        None => {
+            let out = case.text("out")?.ok_or("`out` is missing")?;
+            printed == out && expected == format!("printed {}", out.len())
+        }
+    };
+    let answer = match right {
+        true => expected.clone(),
+        false => format!("printed {}: {:?}", printed.len(), String::from_utf8_lossy(&printed)),
+    };
+    Ok(Called { expected, answer, faults: String::new() })
+}
+
+/// What a program prints, given this on its standard input.
+fn output(program: &Path, input: &[u8]) -> Result<Vec<u8>, String> {
+    let shown = program.display();
+    if !program.exists() {
+        return Err(format!("{shown} is missing: run `rt check expand trace` in the top folder first"));
+    }
+    let failed = |what: &str, error: std::io::Error| format!("{shown} {what}: {error}");
+    let mut child = Command::new(program)
+        .stdin(Stdio::piped())
+        .stdout(Stdio::piped())
+        .spawn()
+        .map_err(|error| failed("cannot be started", error))?;
+    // It reads all that it wants before it prints, and need not read to the end.
+    let given = match child.stdin.take() {
+        Some(mut stdin) => stdin.write_all(input),
+        None => Ok(()),
+    };
+    let output = child.wait_with_output().map_err(|error| failed("cannot be read", error))?;
+    match given {
+        Err(error) if error.kind() != ErrorKind::BrokenPipe => Err(failed("takes no input", error)),
+        _ => Ok(output.stdout),
+    }
+}
+
+#[cfg(test)]
+mod tests {
+    use super::*;
+
+    #[test]
+    fn outputs() {
+        assert_eq!(output(Path::new("/bin/cat"), b"a\n\xff"), Ok(b"a\n\xff".to_vec()));
+        // Not read to the end.
+        assert_eq!(output(Path::new("/bin/true"), &[0; 1 << 20]), Ok(vec![]));
+        assert!(output(Path::new("/nowhere/expand"), b"").unwrap_err().contains("rt check expand trace"));
+    }
+}
