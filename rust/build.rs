@@ -15,7 +15,8 @@ fn main() {
     let object = format!("{out}/plain.o");
     let archive = format!("{out}/libplain.a");
     run(Command::new("cc").args([
-        "-O2",
+        "-O3",
+        "-march=native",
         "-std=c11",
         "-Wall",
         "-Wextra",

@@ -1,7 +1,8 @@
-//! Times the library against plain C (bench/plain.c, cc -O2) in one process, on
+//! Times the library against plain C (bench/plain.c, cc -O3 -march=native) in one process, on
 //! the same inputs, and prints the ratios of the medians.
 
-use dualrail::paper::{MOST_BYTES, MOST_LINES, ROW, SIX, STATE};
+use dualrail::paper::walk::SET;
+use dualrail::paper::{kind_of_place, Kind, MOST_BYTES, MOST_LINES, ROW, SIX, STATE};
 use dualrail::plain::Plain;
 use dualrail::simon;
 use dualrail::{Answer, Dualrail, Library};
@@ -79,6 +80,41 @@ fn stored(text: &str) -> Vec<u16> {
     store
 }
 
+/// The lent sets of the values that a place may have.
+fn sets_of(values: impl Fn(usize) -> Vec<u8>) -> Vec<u8> {
+    let mut sets = vec![];
+    for place in 0..STATE {
+        let mut set = values(place);
+        set.insert(0, set.len() as u8);
+        set.resize(SET, 0);
+        sets.extend(set);
+    }
+    sets
+}
+
+/// Both codes in every sensitive place, one value in all others.
+fn image_sets() -> Vec<u8> {
+    let mut image = vec![0; STATE];
+    Library.to_image(&[0; STATE], &mut image);
+    sets_of(|place| if kind_of_place(place) == Kind::Sensitive { vec![1, 2] } else { vec![image[place]] })
+}
+
+/// A step that takes as long as any: both arguments by bases of 16 values to cells of 16 values, 16 old values, one result and no leak.
+fn worst_step() -> (Vec<u16>, Vec<u8>) {
+    let three: Vec<u8> = (0..=255u8).filter(|n| n.count_ones() == 3).collect();
+    let sets = sets_of(|place| match place {
+        4 => three[..16].to_vec(),
+        5 => three[16..32].to_vec(),
+        32 => three[..16].to_vec(),
+        _ if place >= 288 && three[..16].contains(&((place - 288) as u8)) => {
+            (0..16).map(|n| 16 * n).collect()
+        }
+        _ if place >= 288 => (0..16).collect(),
+        _ => vec![0],
+    });
+    (stored("u,and,@0,^r4+0,^r5+0,\n"), sets)
+}
+
 fn main() {
     println!(
         "Medians of {REPEATS} repeats in microseconds; both sides in one process, by turns, on the same"
@@ -106,6 +142,11 @@ fn main() {
     measure("run, its expansion, 65,425 steps", 1.2, &|on, memory| {
         on.run(&expansion, 0, 65_535, &mut memory.state, &mut memory.numbers)
     });
+
+    let images = image_sets();
+    measure("walk, its expansion on all images, 65,425", 1.2, &|on, _| on.judge(&expansion, &images, 65_535));
+    let (worst, sets) = worst_step();
+    let step = measure("walk, one step of 65,536 argument choices", 1.2, &|on, _| on.judge(&worst, &sets, 1));
 
     let marked = |count: usize| {
         let few = [
@@ -154,6 +195,7 @@ fn main() {
     let write_long = write("write, 1,024 lines", 1_024);
     let write_short = write("write, 256 lines", 256);
 
+    println!("\nThe worst step of a walk found: {:.2} ms.", step / 1000.0);
     println!("\nThe library alone, ratios of its medians:");
     let alone = |name: &str, ratio: f64, goal: f64| println!("{name:66} {}", judged(ratio, goal));
     alone("expand, 1,024 jumps to line 1,024 against to line 0", jumps_end / jumps_0, 1.1);
