@@ -41,13 +41,14 @@ checked-source p vs e = go (check-answer p) refl
 
 -- ---- what `expand` wrote is a stored program whose lines are the expansion
 
-record Listed (p e : List ℕ) (n : ℕ) : Type 0 where
+pub record Listed (p e : List ℕ) (n : ℕ) : Type 0 where
+  pub is : listing e n ≡ flatMap codes (expand neighbours (lines p))
   source : programCheck p ≡ counted (lineCount p)
-  accepted : Accepted (lines p)
+  pub accepted : Accepted (lines p)
   checked : programCheck (listing e n) ≡ counted (length (expand neighbours (lines p)))
   lines-are : lines (listing e n) ≡ expand neighbours (lines p)
 
-listed : (p e : List ℕ) (n : ℕ) → Expanded p e n → Listed p e n
+pub listed : (p e : List ℕ) (n : ℕ) → Expanded p e n → Listed p e n
 listed p e n E =
     let W = expansion-written neighbours p (E .lent) n e (E .call) in
     let A = accepted-source p (W .values) (W .checked) in
@@ -55,6 +56,7 @@ listed p e n E =
     let long : length c ≡ lineWidth * n = codes-length (expand neighbours (lines p)) ∙ ap (λ (m : ℕ). lineWidth * m) (sym (W .count)) in
     let is : listing e n ≡ c = ap (take (lineWidth * n)) (W .listing) ∙ take-at c (drop (length c) (E .lent)) (lineWidth * n) long in
     record {
+      is = is;
       source = checked-source p (W .values) (W .checked);
       accepted = A;
       checked = ap programCheck is ∙ expansion-check neighbours near (lines p) A;
@@ -64,10 +66,10 @@ listed p e n E =
 -- ---- what a run leaves
 
 -- the ending, 0 or 1, that an answer begins with
-ending : List Line → Ran → ℕ
+pub ending : List Line → Ran → ℕ
 ending p r = cond (ltb (r .at) (length p)) 1 0
 
-answer-is : (p : List Line) (r : Ran) → answer p r ≡ done (ending p r ∷ r .at ∷ length (r .rows) ∷ [])
+pub answer-is : (p : List Line) (r : Ran) → answer p r ≡ done (ending p r ∷ r .at ∷ length (r .rows) ∷ [])
 unfolding answer ending
 answer-is p r = go (ltb (r .at) (length p))
   where
@@ -75,7 +77,7 @@ answer-is p r = go (ltb (r .at) (length p))
     go true = refl
     go false = refl
 
-leaves-is : (p : List Line) (r : Ran) (x : List ℕ)
+pub leaves-is : (p : List Line) (r : Ran) (x : List ℕ)
     → runLeaves p r x ≡ outcome (done (ending p r ∷ r .at ∷ length (r .rows) ∷ [])) (r .state ∷ atFront (flatMap (λ q. q) (r .rows)) x ∷ [])
 unfolding runLeaves
 leaves-is p r x = ap (λ (a : Report). outcome a (r .state ∷ atFront (flatMap (λ q. q) (r .rows)) x ∷ [])) (answer-is p r)

@@ -1,1 +1,2 @@
 pub mod EntryRuns
+pub mod VerdictCalls

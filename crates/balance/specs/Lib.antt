@@ -1,1 +1,2 @@
 pub mod EntryClaims
+pub mod VerdictClaims

@@ -8,6 +8,8 @@ ghost use Rattle.model.specs.Run.{runOutcome};
 ghost use Rattle.balance.specs.EntryClaims.{Twin, SameCalls, Followable, FollowingCalls};
 use model::Answer;
 
+pub mod verdicts;
+
 pub struct Twins {
     pub one: Answer,
     pub other: Answer,
