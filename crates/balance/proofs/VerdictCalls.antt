@@ -1,23 +1,20 @@
 -- Request 01 from the claims over the definitions to the calls: a report that is clear was refused by no check, so each run leaves what the
 -- definition's run leaves. Assumes nothing.
-use mathlib.Core.Path.{_≡_, sym, ap, ap₂, _∙_, subst, subst₂}
+use mathlib.Core.Path.{_≡_, sym, ap, ap₂, _∙_, subst}
 use mathlib.Core.List.{List, [], _∷_, flatMap}
-use Prim.Native.Nat.{ℕ, _*_, _≤_}
+use Prim.Native.Nat.{ℕ}
 use lib.ListN.{length}
-use Rattle.model.specs.declared.Line.{Line}
 use Rattle.model.specs.Layouts.{neighbours, near}
-use Rattle.model.specs.Limits.{rowWidth}
-use Rattle.model.specs.Answers.{Report, done, refused, counted, andThen, Outcome, outcome, atFront}
+use Rattle.model.specs.Answers.{Report, done, refused, counted, Outcome, outcome, atFront}
 use Rattle.model.specs.Places.{State}
 use Rattle.model.specs.Stored.{lines, programCheck}
-use Rattle.model.specs.Run.{run, answer, runLeaves, runOutcome}
+use Rattle.model.specs.Run.{run, answer, runOutcome}
 use Rattle.model.proofs.OutcomeLaws.{run-outcome}
 use Rattle.model.proofs.CheckAnswers.{CountOrRefusal, counts, refuses, program-answers}
-use Rattle.walk.specs.Walk.{told, judged, verdictReport}
+use Rattle.walk.specs.Walk.{told, verdictReport}
 use Rattle.walk.specs.Claims.{Clear, Images}
 use Rattle.walk.proofs.Reports.{sound}
 use Rattle.walk.proofs.Expansions.{no-false-alarm}
-use Rattle.balance.specs.EntryClaims.{listing, SameCalls}
 use Rattle.balance.specs.VerdictClaims.{DrawnTwins, AsJudged, SoundCalls, ClearExpansion, WrittenListing}
 use Rattle.balance.proofs.EntryRuns.{listed, ending, answer-is, leaves-is}
 

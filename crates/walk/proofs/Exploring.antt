@@ -2,26 +2,25 @@
 -- destination's old values only the distance turns on which it is.
 -- Assumes nothing.
 use mathlib.Core.Path.{_≡_, refl, sym, ap, ap₂, _∙_}
-use mathlib.Core.Bool.{Bool, true, false, not, cond, _&&_, _||_}
+use mathlib.Core.Bool.{Bool, true, false, not, cond, _&&_}
 use mathlib.Core.List.{List, [], _∷_, _++_, map, flatMap, append-nil, List·Memᴰ·head, List·Memᴰ·tail, Memᴰ·of-map}
 use mathlib.Core.Logic.{_⊎_, inl, inr}
 use Prim.Native.Nat.{ℕ, zero, suc, _+_, _≤_, _<_}
 use native.Mathlib.Numerals.{add-one}
-use native.Mathlib.Decide.{ℕ-discrete}
 use native.Mathlib.Omega.{arith}
-use borrow.Author.Tests.{le-ltb, lt-ltb, ltb-true, ltb-false, eq-eqb, ne-eqb}
+use borrow.Author.Tests.{ltb-true, eq-eqb, ne-eqb}
 use lib.Dec.{T, eqb, ltb, ltb→lt, nltb→le}
-use lib.ListN.{length, getD, set, drop, length-map, length-set, List·getD-map, List·getD-eq-default}
-use lib.Seq.{drop-cons, set-getD, set-out, getD-set-same, getD-set-other}
+use lib.ListN.{length, getD, set, drop, length-map, List·getD-eq-default}
+use lib.Seq.{drop-cons, set-getD, getD-set-same, getD-set-other}
 use Rattle.model.specs.declared.Operand.{Operand}
 use Rattle.model.specs.declared.Line.{Line}
 use Rattle.model.specs.Limits.{stateSize}
-use Rattle.model.specs.Places.{State, place, address}
+use Rattle.model.specs.Places.{State, place}
 use Rattle.model.specs.Step.{Row, row, result, argument, alu, distance}
 use Rattle.model.proofs.TestLaws.{below}
 use Rattle.walk.specs.Walk.{Sets, maxValues, insert, several, values, heads, base, draw, involved, sameRow, allShow}
 use Rattle.walk.specs.Claims.{In}
-use Rattle.walk.specs.Gathering.{Gathered, gathered, firstRow, noted, visited, visitedAll, allAt, spot, argumentPlaces, Settled, Opens}
+use Rattle.walk.specs.Gathering.{Gathered, firstRow, noted, visited, visitedAll, allAt, spot, argumentPlaces, Settled}
 use Rattle.walk.proofs.Members.{first-in, in-some, mem-in, by-member, in-insert, settled}
 use Rattle.walk.proofs.DrawnStates.{Among, heads-at, place-by, address-by, argument-by}
 use Rattle.walk.proofs.Gathered.{Some, some-put, or-not-and}

@@ -1,25 +1,25 @@
 -- What is gathered at the choices one after the other is what the walk's definitions say: the distinct results where there are no more
 -- than a set holds, and whether all rows are the first.
 -- Assumes nothing.
-use mathlib.Core.Path.{_≡_, refl, sym, ap, ap₂, _∙_}
+use mathlib.Core.Path.{_≡_, refl, sym, ap, _∙_}
 use mathlib.Core.Bool.{Bool, true, false, not, cond, _&&_, _||_}
 use mathlib.Core.List.{List, [], _∷_, _++_, map, flatMap}
-use Prim.Native.Nat.{ℕ, zero, suc, _+_, _≤_, _<_}
+use Prim.Native.Nat.{ℕ, suc, _+_, _≤_, _<_}
 use native.Mathlib.Numerals.{add-one}
 use native.Mathlib.Decide.{ℕ-discrete}
 use native.Mathlib.Omega.{arith}
 use borrow.Author.Tests.{le-ltb, lt-ltb, ltb-true, ltb-false, eq-eqb, ne-eqb}
-use lib.Dec.{eqb, ltb}
+use lib.Dec.{ltb}
 use lib.ListN.{length, getD, set, drop, drop-of-length-le, length-append, List·getD-eq-default}
 use lib.Seq.{drop-cons, map-set-same, set-out, getD-set-same, getD-set-other}
 use Rattle.model.specs.declared.Line.{Line}
 use Rattle.model.specs.Limits.{stateSize}
 use Rattle.model.specs.Places.{State}
-use Rattle.model.specs.Step.{Row, row, result, distance}
+use Rattle.model.specs.Step.{Row, row, result}
 use Rattle.model.proofs.TestLaws.{below}
 use Rattle.walk.specs.Walk.{Sets, maxValues, insert, insertAll, values, heads, draw, involved, choices, written, sameRow, allShow, steady, member}
 use Rattle.walk.specs.Claims.{Full}
-use Rattle.walk.specs.Gathering.{Gathered, gathered, firstRow, noted, visited, visitedAll, allAt, Tells}
+use Rattle.walk.specs.Gathering.{Gathered, gathered, noted, visited, visitedAll, Tells}
 
 -- ---- the fold
 

@@ -26,7 +26,6 @@ use Rattle.model.proofs.PlaceLaws.{apart}
 use Rattle.model.proofs.Operands.{SensitivePlace, SensitiveArgument, steady-place, sensitive-of, value-at}
 use Rattle.model.proofs.Acceptance.{MarkedOperands}
 use Rattle.model.proofs.Finite.{tableAt, tableOp, tableWeight, low, twice, shifted, scaled, joinedIndex, flipped, slot, low-weight, low-distance, twice-weight, twice-distance, twice-twice-weight, twice-twice-distance, flipped-weight, flipped-distance, flipped-code, not-bit, index-weight, index-distance, slot-low, slot-weight, slot-holds, table-bit}
-use Rattle.walk.specs.Walk.{branches}
 use Rattle.walk.specs.Claims.{In}
 use Rattle.walk.proofs.Bounds.{Bound, Fits}
 use Rattle.walk.proofs.Chains.{put, put-other}
@@ -99,22 +98,22 @@ module _ (L : Layout) (K : Known L) (U : State) where
 
   module _ {B : Bound} (R : Ready L U B) where
     masks : (r : ℕ) → Scratch r → Holds B r (codes L) → Led L U B (markedLine And (Register r) (Register r) (Literal (L .mask)) ∷ []) (put r (ofBit lowest) B)
-    unfolding alu branches taken argument value address ones
+    unfolding alu taken argument value address ones
     masks r h c = works And (code L) (λ b. L .mask) 1 0 (λ a b ha hb. (low-weight L K a ha, low-distance L K a ha)) R r (Literal (L .mask)) (tt, λ x y. refl) h c (λ s F. (inl refl, refl))
 
     doubles : (f : ℕ → ℕ) → ((a : ℕ) → a < 2 → (weight (twice (f a)) ≡ 1) × (distance (f a) (twice (f a)) ≡ 2)) → Holds B 1 (ofBit f)
         → Led L U B (markedLine Lsl (Register 1) (Register 1) (Literal 1) ∷ []) (put 1 (ofBit (λ a. twice (f a))) B)
-    unfolding alu branches taken argument value address ones
+    unfolding alu taken argument value address ones
     doubles f n c = works Lsl f (λ b. 1) 1 2 (λ a b ha hb. n a ha) R 1 (Literal 1) (tt, λ x y. refl) r1 c (λ s F. (inl refl, refl))
 
     joins : Holds B 1 (ofBit (λ a. scaled L (code L a))) → Holds B 2 (ofBit lowest) → Led L U B (markedLine Orr (Register 1) (Register 1) (Register 2) ∷ []) (put 1 (ofBits index) B)
-    unfolding alu branches taken argument value place address ones
+    unfolding alu taken argument value place address ones
     joins c e =
         works Orr (λ a. scaled L (code L a)) lowest 2 1 (λ a b ha hb. (index-weight L K 0 a b (lit< tt) ha hb, index-distance L K 0 a b (lit< tt) ha hb))
         R 1 (Register 2) (tt, λ x y. refl) r1 c (λ s F. (e (getD s 2 0) (F .each 2 (lit< tt)), refl))
 
     flips : Holds B 1 (codes L) → Led L U B (flip L) (put 1 (ofBit (λ a. flipped L (code L a))) B)
-    unfolding flip alu branches taken argument value address ones
+    unfolding flip alu taken argument value address ones
     flips c =
         works Xor (code L) (λ b. L .mask) 1 2 (λ a b ha hb. (flipped-weight L K a ha, flipped-distance L K a ha)) R 1 (Literal (L .mask)) (tt, λ x y. refl) r1 c (λ s F. (inl refl, refl))
 

@@ -3,17 +3,17 @@
 use mathlib.Core.Path.{_≡_, refl, sym, ap, _∙_}
 use mathlib.Core.Bool.{Bool, true, false, cond}
 use mathlib.Core.List.{List, [], _∷_, flatMap}
-use Prim.Native.Nat.{ℕ, zero, suc, _+_, _*_, _≤_, _<_}
+use Prim.Native.Nat.{ℕ, _+_, _*_, _≤_, _<_}
 use native.Mathlib.Omega.{arith}
-use borrow.Author.Tests.{eqb-true, eqb-false, ltb-true}
+use borrow.Author.Tests.{eqb-true, eqb-false}
 use lib.Dec.{T, eqb, ltb→lt}
 use lib.ListN.{length, getD, set, drop, length-map, length-set}
 use lib.Seq.{set-getD, set-set}
 use Rattle.model.specs.declared.Line.{Line}
 use Rattle.model.specs.Limits.{stateSize}
 use Rattle.model.specs.Places.{State}
-use Rattle.walk.specs.Walk.{setWidth, maxValues, listed, listsOf, values, several, heads, draw, involved}
-use Rattle.walk.specs.Gathering.{Gathered, gathered, visitedAll, spot, argumentPlaces, Settled, Opens, begun}
+use Rattle.walk.specs.Walk.{setWidth, maxValues, listsOf, values, several, heads, draw, involved}
+use Rattle.walk.specs.Gathering.{Gathered, visitedAll, argumentPlaces, Settled, Opens, begun}
 use Rattle.walk.proofs.SetBytes.{lists-length, values-le, value-at, begun-alone, begun-again, begun-back, begun-beside}
 use Rattle.walk.proofs.DrawnStates.{heads-at}
 use Rattle.walk.proofs.Gathered.{one-value, no-value}

@@ -25,7 +25,7 @@ use Rattle.model.proofs.Runs.{ran, stopped, step-run, run-zero}
 use Rattle.walk.specs.declared.Verdict.{Verdict}
 use Rattle.walk.specs.declared.Verdict.the-variants.{Balanced, Spent, Leak, Refused}
 use Rattle.walk.specs.Walk.{Sets, maxValues, several, values, heads, base, branches, loose, unsettled, written, steady, onto, ended, walk}
-use Rattle.walk.specs.Claims.{In, Drawn, Full, Once}
+use Rattle.walk.specs.Claims.{In, Drawn, Full}
 use Rattle.walk.proofs.Members.{in-some, settled}
 use Rattle.walk.proofs.DrawnStates.{heads-drawn, drawn-in, full-set, place-by, argument-by, in-written, written-once, by-steady, steady-row}
 
@@ -69,7 +69,7 @@ not-unsettled S l =
 -- ---- so the line writes one place and goes to one line
 
 taken-by : (op : Opcode) (x y x′ y′ : ℕ) → (T (branches op) → (x ≡ x′) × (y ≡ y′)) → taken op x y ≡ taken op x′ y′
-unfolding taken branches
+unfolding taken
 taken-by Nop x y x′ y′ h = refl
 taken-by Jmp x y x′ y′ h = refl
 taken-by Not x y x′ y′ h = refl

@@ -11,7 +11,6 @@ use Rattle.model.specs.declared.Line.{Line}
 use Rattle.model.specs.Places.{State, place}
 use Rattle.model.specs.Step.{Row, result, next}
 use Rattle.model.specs.Stored.{operandOf}
-use Rattle.walk.specs.declared.Move.{Move}
 use Rattle.walk.specs.declared.Move.the-variants.{To, Leaks, Refuses}
 use Rattle.walk.specs.Walk.{Sets, maxValues, setWidth, listed, heads, involved, draw, choices, unsettled, written, steady, onto}
 use Rattle.walk.specs.Claims.{Full}

@@ -104,7 +104,7 @@ pub precharge : {L : Layout} {U : State} {B : Bound} → Ready L U B → (d a : 
     → Steady d → (kind (place d U) ≡ Public → ⊥) → place d U < stateSize → Even (B (place d U)) → Even Q → length Q ≤ 16
     → ((s : State) → Fits (put (place d U) (0 ∷ []) B) s → In (argument Marked a s) Q × (weight (address a s) ≡ u))
     → Chain B (precharged d a) (put (place d U) Q B)
-unfolding result alu argument value address ones distance branches taken
+unfolding result alu argument value address ones distance taken
 precharge {U = U} {B = B} R d a Q u st np wi old E few src =
     let q = place d U in
     let w = weight (address d U) in

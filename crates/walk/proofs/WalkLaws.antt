@@ -15,7 +15,7 @@ use Rattle.model.specs.Limits.{stateSize}
 use Rattle.model.specs.Answers.{Report, report, refused, counted, andThen}
 use Rattle.model.specs.Step.{next}
 use Rattle.model.specs.Stored.{lineAt, lineCount, lines, programCheck}
-use Rattle.model.proofs.StoredLaws.{length-lines, get-line, no-line, program-checked}
+use Rattle.model.proofs.StoredLaws.{length-lines, get-line, no-line}
 use Rattle.model.proofs.CheckAnswers.{program-answers, NoCount, Refusal, no-count-refuses}
 use Rattle.walk.specs.declared.Verdict.{Verdict}
 use Rattle.walk.specs.declared.Verdict.the-variants.{Balanced, Spent, Leak, Refused}

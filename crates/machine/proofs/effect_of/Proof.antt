@@ -9,7 +9,7 @@ use Rattle.model.specs.declared.Opcode.{Opcode}
 use Rattle.model.specs.declared.Line.{Line}
 use Rattle.model.specs.Places.{State, place, address}
 use Rattle.model.specs.Stored.{lineOf}
-use Rattle.model.specs.Step.{weight, argument, alu, result, row}
+use Rattle.model.specs.Step.{weight, alu, result, row}
 use Rattle.machine.specs.declared.Arguments.{Arguments}
 use Rattle.machine.specs.declared.Effect.{Effect}
 use Rattle.machine.specs.declared.Fetched.{Fetched}

@@ -8,7 +8,7 @@ use Rattle.model.specs.declared.Opcode.{Opcode}
 use Rattle.model.specs.declared.Line.{Line}
 use Rattle.model.specs.Places.{State}
 use Rattle.model.specs.Stored.{lineOf}
-use Rattle.model.specs.Step.{argument, taken, targetLine, next}
+use Rattle.model.specs.Step.{taken, targetLine, next}
 use Rattle.machine.specs.declared.Arguments.{Arguments}
 use Rattle.machine.specs.declared.Fetched.{Fetched}
 use Rattle.machine.specs.Loop.{fetchOf, argumentsOf}

@@ -10,7 +10,7 @@ use Rattle.model.specs.declared.Opcode.{Opcode}
 use Rattle.model.specs.declared.Line.{Line}
 use Rattle.model.specs.Places.{State, place, address}
 use Rattle.model.specs.Stored.{lineOf}
-use Rattle.model.specs.Step.{weight, argument, alu, taken, targetLine, result, next, after, row}
+use Rattle.model.specs.Step.{weight, alu, taken, targetLine, result, next, after, row}
 use Rattle.machine.specs.declared.Arguments.{Arguments}
 use Rattle.machine.specs.declared.Fetched.{Fetched}
 use Rattle.machine.specs.declared.Place.{Place}

@@ -1,13 +1,10 @@
 -- `walk::judge` meets its contract: each refusal, and the walk on sets of its own. The check of a program answers a count or a refusal alone. Assumes nothing.
-use mathlib.Core.Path.{_≡_, sym, _∙_}
-use Prim.Native.Nat.{ℕ}
+use mathlib.Core.Path.{sym, _∙_}
 use native.Mathlib.Omega.{arith}
 use borrow.Author.Tests.{not-true, not-false}
 use Rattle.model.proofs.StoredLaws.{program-checked}
 use Rattle.model.proofs.CheckAnswers.{count-told}
 use Rattle.model.proofs.TestLaws.{holds}
-use Rattle.walk.specs.Walk.{Sets}
-use Rattle.walk.specs.Claims.{Full}
 use Rattle.walk.proofs.Reports.{sized-full}
 use Rattle.walk.proofs.WalkLaws.{no-program, no-sets, no-sizes, walks}
 use borrow.Author.Needs.{needs}

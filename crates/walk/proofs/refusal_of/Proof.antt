@@ -1,6 +1,4 @@
 -- `walk::refusal_of` meets its contract, case by case. Assumes nothing.
-use mathlib.Core.Path.{ap}
-use Rattle.walk.specs.Gathering.{refusalOf}
 use borrow.Author.Needs.{needs}
 use Rattle.walk.proofs.refusal_of.Statement.{statement}
 use Rattle.walk.proofs.refusal_of.Tie as tie

@@ -1,16 +1,16 @@
 -- `walk::choices::explore` meets its contract. The measure of the calls is what is left of the arguments' places, that of the loop what is
 -- left of the values; the loop's invariant is in proofs/Narrowing. Assumes nothing.
-use mathlib.Core.Path.{_≡_, refl, sym, ap, ap₂, _∙_}
+use mathlib.Core.Path.{_≡_, refl, sym, ap, _∙_}
 use mathlib.Core.List.{List}
-use Prim.Native.Nat.{ℕ, suc, _+_, _*_, _-_, _≤_, _<_}
+use Prim.Native.Nat.{ℕ, suc, _+_, _-_, _≤_, _<_}
 use native.Mathlib.Omega.{arith}
 use lib.ListN.{length, getD, drop}
 use borrow.Author.Needs.{needs}
 use borrow.Fn.Kinds.{In}
 use borrow.Fn.PlainCycle.{Measures, is, falls, and}
-use Rattle.model.specs.Limits.{stateSize, rowWidth}
+use Rattle.model.specs.Limits.{rowWidth}
 use Rattle.walk.specs.Walk.{setWidth, listed, listsOf, values, heads, draw, involved}
-use Rattle.walk.specs.Gathering.{Gathered, gathered, visitedAll, lineBy, argumentPlaces, begun}
+use Rattle.walk.specs.Gathering.{gathered, visitedAll, lineBy, argumentPlaces}
 use Rattle.walk.proofs.SetBytes.{listed-few}
 use Rattle.walk.proofs.Gathered.{many-stays}
 use Rattle.walk.proofs.Narrowing.{Turned, turned-none, turned-next, turned-all, within, same-size, same-state-size, few-values, read-value, narrowed-state, narrowed-settled}

@@ -1,6 +1,5 @@
 -- `walk::choices::next_open` meets its contract. The loop's invariant: the places so far have one value each, so that nothing is drawn there. Assumes nothing.
 use mathlib.Core.Path.{_≡_, refl, sym, ap, _∙_}
-use mathlib.Core.List.{List}
 use mathlib.Core.Bool.{not}
 use Prim.Native.Nat.{ℕ, _+_, _-_, _≤_, _<_}
 use native.Mathlib.Omega.{arith}

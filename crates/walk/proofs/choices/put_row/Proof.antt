@@ -1,9 +1,9 @@
 -- `walk::choices::put_row` meets its contract. The loop's invariant: the first i numbers stand in the row. Assumes nothing.
 use mathlib.Core.Path.{_≡_, refl, ap, _∙_}
-use mathlib.Core.List.{List, _++_}
-use Prim.Native.Nat.{ℕ, _+_, _-_, _≤_, _<_}
+use mathlib.Core.List.{_++_}
+use Prim.Native.Nat.{_+_, _-_, _≤_}
 use native.Mathlib.Omega.{arith}
-use lib.ListN.{length, getD, set, take, drop}
+use lib.ListN.{length, take, drop}
 use lib.Seq.{take-all}
 use Rattle.model.specs.Limits.{rowWidth}
 use Rattle.walk.proofs.SetBytes.{front-next, front-length, front-over}

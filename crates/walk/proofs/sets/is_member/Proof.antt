@@ -1,8 +1,8 @@
 -- `walk::sets::is_member` meets its contract. The loop's invariant: x is among the values from j on exactly where it is among all. Assumes nothing.
 use mathlib.Core.Path.{_≡_, refl, sym, _∙_}
-use Prim.Native.Nat.{_+_, _-_, _≤_}
+use Prim.Native.Nat.{_-_, _≤_}
 use native.Mathlib.Omega.{arith}
-use lib.ListN.{length, getD, drop}
+use lib.ListN.{getD, drop}
 use Rattle.walk.specs.Walk.{setWidth, listed, member}
 use Rattle.walk.proofs.SetBytes.{listed-few, listed-at}
 use Rattle.walk.proofs.Turns.{none-over, none-next, one-there}
