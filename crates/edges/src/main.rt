@@ -1,6 +1,7 @@
-// The section Edges of document 01, and an input for every refusal: runs the cases of the file `stdin` beside src/, prints `ok` or `WRONG`
-// and the name of each, and the gate holds that to the file `stdout`. The cases are data, read beside the paper, and more cost no proof;
-// notation.rt has how they are written. All here is proved safe and ending; that the answers are right is the contract of what it calls.
+// The section Edges of document 01, the walk on sets of request 01, and an input for every refusal: runs the cases of the file `stdin`
+// beside src/, prints `ok` or `WRONG` and the name of each, and the gate holds that to the file `stdout`. The cases are data, read beside the
+// paper, and more cost no proof; notation.rt has how they are written. All here is proved safe and ending; that the answers are right is the
+// contract of what it calls.
 ghost use Prim.Native.Nat.{_≤_};
 ghost use lib.ListN.{length};
 use crate::notation::BEFORE;
@@ -15,8 +16,10 @@ use crate::notation::head;
 use crate::notation::is_number;
 use crate::notation::is_right;
 use crate::notation::is_text;
+use crate::notation::is_verdict;
 use crate::notation::least;
 use crate::notation::put;
+use crate::notation::put_sets;
 use crate::notation::size;
 use crate::notation::tail;
 use model::Answer;
@@ -158,6 +161,14 @@ fn makes_bits(line: &[u8], state: &[u8], bits: &mut [u8]) -> bool {
     is_right(line, answer, bits, &[0u16; 0])
 }
 
+// The verdict on the program, from the sets of the case.
+fn judges(line: &[u8], program: &[u16], sets: &mut [u8]) -> bool {
+    put_sets(line, sets);
+    let budget = size(line, 0, LARGEST) as u16;
+    let bytes = size(line, 1, sets.len());
+    is_verdict(line, walk::judge(program, &sets[0..bytes], budget))
+}
+
 // ---- the cases
 
 // Makes the call that a case names; the first letter tells them apart. The arrays come in with their sizes, so that a proof of their
@@ -180,6 +191,7 @@ fn comes_out_on(
         b't' => runs_image(line, program, state, bytes, numbers),
         b'i' => makes_image(line, state, bytes),
         b'b' => makes_bits(line, state, bytes),
+        b'j' => judges(line, program, bytes),
         _ => false,
     }
 }

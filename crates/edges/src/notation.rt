@@ -3,6 +3,9 @@
 ghost use Prim.Native.Nat.{_-_, _≤_};
 ghost use lib.ListN.{length};
 use model::Answer;
+use model::STATE_SIZE;
+use walk::SETS_SIZE;
+use walk::Verdict;
 
 // The fields of a case, in their order.
 pub(super) const NAME: usize = 0;
@@ -23,6 +26,9 @@ const TEXT: usize = 7;
 
 // The largest number of 16 bits, as stored numbers, starts and budgets are.
 pub(super) const LARGEST: usize = 65535;
+
+// The bytes of a set of values: their count, then the values.
+const SET_WIDTH: usize = SETS_SIZE / STATE_SIZE;
 
 // ---- fields and numbers
 
@@ -152,6 +158,57 @@ pub(super) fn put(list: &[u8], bytes: &mut [u8], numbers: &mut [u16]) {
     }
 }
 
+// ---- sets of values, of a walk: `r4=1,2` says which values a place may have, `b68=0` what a byte of the sets holds
+
+// Sets a byte, where there is one.
+fn put_byte(bytes: &mut [u8], at: usize, value: usize) {
+    if at < bytes.len() {
+        bytes[at] = (value % 256) as u8;
+    }
+}
+
+// The set of a place, from its values with commas between.
+fn put_values(values: &[u8], at: usize, sets: &mut [u8])
+    requires { ⌜ at ≤ 1000031 ⌝ }
+{
+    let mut n: usize = 0;
+    while n + 1 < SET_WIDTH && 0 < part(values, n, b',').len() {
+        put_byte(sets, SET_WIDTH * at + 1 + n, decimal(part(values, n, b',')));
+        n += 1;
+    }
+    put_byte(sets, SET_WIDTH * at, n);
+}
+
+fn put_set(item: &[u8], sets: &mut [u8]) {
+    if first(item) == b'b' {
+        put_one(item, sets, &mut [0u16; 0]);
+    } else if !is_number(item) {
+        put_values(tail(item, b'='), place(head(item, b'=')), sets);
+    }
+}
+
+// Sets what a list says.
+fn put_listed(list: &[u8], sets: &mut [u8]) {
+    let mut rest = list;
+    while 0 < rest.len() {
+        put_set(head(rest, b' '), sets);
+        let next = tail(rest, b' ');
+        rest = next;
+    }
+}
+
+// The sets of a case: 0 alone in each place, but for what its list says.
+pub(super) fn put_sets(line: &[u8], sets: &mut [u8]) {
+    let mut i: usize = 0;
+    while i < STATE_SIZE {
+        put_values(b"0", i, sets);
+        i += 1;
+    }
+    put_listed(field(line, BEFORE), sets);
+}
+
+// ---- what memory holds then
+
 // As a function, this asks for no proof that a byte of a slice fits.
 fn wide(byte: u8) -> u16 {
     byte as u16
@@ -240,8 +297,33 @@ fn as_told(answer: Answer) -> Told {
     }
 }
 
-fn is_answer(answer: Answer, expected: &[u8]) -> bool {
-    let told = as_told(answer);
+// A verdict the same way: `balanced 1 1`, `spent 0 5`, `leak 3 3` or `refused 21 0`.
+fn verdict_as_told(verdict: Verdict) -> Told {
+    match verdict {
+        Verdict::Balanced { counter, steps } => Told {
+            letter: b'b',
+            one: counter as usize,
+            two: steps as usize,
+        },
+        Verdict::Spent { counter, steps } => Told {
+            letter: b's',
+            one: counter as usize,
+            two: steps as usize,
+        },
+        Verdict::Leak { line, steps } => Told {
+            letter: b'l',
+            one: line as usize,
+            two: steps as usize,
+        },
+        Verdict::Refused { number, line } => Told {
+            letter: b'r',
+            one: number as usize,
+            two: line as usize,
+        },
+    }
+}
+
+fn is_told(told: Told, expected: &[u8]) -> bool {
     told.letter == first(expected)
         && told.one == decimal(part(expected, 1, b' '))
         && told.two == decimal(part(expected, 2, b' '))
@@ -256,5 +338,10 @@ pub(super) fn is_text(line: &[u8], bytes: &[u8]) -> bool {
 
 // Whether a call gave the answer of its case, and left what the case says.
 pub(super) fn is_right(line: &[u8], answer: Answer, bytes: &[u8], numbers: &[u16]) -> bool {
-    is_answer(answer, field(line, ANSWER)) && holds(field(line, AFTER), bytes, numbers)
+    is_told(as_told(answer), field(line, ANSWER)) && holds(field(line, AFTER), bytes, numbers)
+}
+
+// Whether a walk gave the verdict of its case.
+pub(super) fn is_verdict(line: &[u8], verdict: Verdict) -> bool {
+    is_told(verdict_as_told(verdict), field(line, ANSWER))
 }
