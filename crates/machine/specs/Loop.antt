@@ -1,12 +1,14 @@
 -- The parts of a step that the code hands from function to function, and the loop over steps with a trace store.
 -- proofs/Traces ties the loop to the model's run. Assumes nothing.
-use mathlib.Core.Bool.{cond}
+use mathlib.Core.Bool.{Bool, true, false, cond}
 use mathlib.Core.List.{List, [], _∷_, _++_}
 use Prim.Native.Nat.{ℕ, zero, suc, _+_, _*_}
 use lib.Dec.{ltb}
 use lib.ListN.{take, drop}
 use Rattle.model.specs.declared.Mark.{Mark}
 use Rattle.model.specs.declared.Line.{Line}
+use Rattle.model.specs.declared.Opcode.{Opcode}
+use Rattle.model.specs.declared.Opcode.the-variants.{Nop, Jmp, Not, Mov, And, Orr, Xor, Lsl, Lsr, Add, Mul, Beq, Bne}
 use Rattle.model.specs.declared.Operand.{Operand}
 use Rattle.model.specs.Limits.{rowWidth}
 use Rattle.model.specs.Answers.{halted, spent, Outcome, outcome}
@@ -46,6 +48,22 @@ rowOf k old result first second destination = k ∷ weight result ∷ distance o
 -- what a line does on a state
 abbrev pub effectOf : Line → ℕ → State → Effect
 effectOf l k s = record { result = result l s; place = place (l .destination) s; row = row l k s }
+
+-- jmp, beq, bne: all others go on whatever their arguments
+abbrev pub jumps : Opcode → Bool
+jumps Nop = false
+jumps Jmp = true
+jumps Not = false
+jumps Mov = false
+jumps And = false
+jumps Orr = false
+jumps Xor = false
+jumps Lsl = false
+jumps Lsr = false
+jumps Add = false
+jumps Mul = false
+jumps Beq = true
+jumps Bne = true
 
 -- a trace store with row n replaced
 abbrev pub putRow : List ℕ → ℕ → Row → List ℕ

@@ -12,7 +12,7 @@ ghost use Rattle.model.specs.Stored.{registers, operandOf, targetOf, lineOf};
 ghost use Rattle.model.specs.Step.{weight, distance, shiftBy, negated, alu, taken, targetLine, next, after, row};
 ghost use Rattle.model.specs.Places.{place};
 ghost use Rattle.model.specs.Run.{runOutcome};
-ghost use Rattle.machine.specs.Loop.{cellPlace, placeOf, fetchOf, argumentsOf, rowOf, effectOf, putRow, machine, runFrom};
+ghost use Rattle.machine.specs.Loop.{cellPlace, placeOf, fetchOf, argumentsOf, rowOf, effectOf, jumps, putRow, machine, runFrom};
 use model::Answer;
 use model::Mark;
 use model::Opcode;
@@ -100,6 +100,27 @@ fn is_taken(opcode: Opcode, x: u8, y: u8) -> bool
         Opcode::Mul => false,
         Opcode::Beq => x == y,
         Opcode::Bne => x != y,
+    }
+}
+
+// Whether a line may go to its target.
+fn may_jump(opcode: Opcode) -> bool
+    ensures { λ r. ⌜ r ≡ jumps opcode ⌝ }
+{
+    match opcode {
+        Opcode::Nop => false,
+        Opcode::Jmp => true,
+        Opcode::Not => false,
+        Opcode::Mov => false,
+        Opcode::And => false,
+        Opcode::Orr => false,
+        Opcode::Xor => false,
+        Opcode::Lsl => false,
+        Opcode::Lsr => false,
+        Opcode::Add => false,
+        Opcode::Mul => false,
+        Opcode::Beq => true,
+        Opcode::Bne => true,
     }
 }
 
@@ -308,13 +329,16 @@ pub fn effect_of(m: u16, o: u16, d: u16, a: u16, b: u16, counter: u16, state: &[
     }
 }
 
-// The counter after a line, whatever its destination.
+// The counter after a line, whatever its destination. A line that goes on whatever its arguments does not read them.
 pub fn next_of(m: u16, o: u16, a: u16, b: u16, t: u16, counter: u16, state: &[u8]) -> u16
     requires { ⌜ counter < 65535 ⌝ }
     ensures { λ r. ⌜ r ≡ next (lineOf m o 0 a b t) counter (now (state .entry)) ⌝ }
 {
-    let mark = coding::mark_of(m);
     let opcode = coding::opcode_of(o);
+    if !may_jump(opcode) {
+        return counter + 1;
+    }
+    let mark = coding::mark_of(m);
     let x = fetch(a, state);
     let y = fetch(b, state);
     let args = read_arguments(mark, x, y);
