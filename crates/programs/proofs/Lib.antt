@@ -5,4 +5,6 @@ pub mod ReaderParts
 pub mod ReadRoom
 pub mod LoadLaws
 pub mod RunLaws
+pub mod VerdictSets
+pub mod VerdictTexts
 pub mod TextSizes

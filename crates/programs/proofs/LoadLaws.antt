@@ -31,7 +31,7 @@ use Rattle.programs.proofs.ReadRoom.{room-enough}
 
 -- ---- the definitions' clauses, with what they cite shut
 
-read-input : (input : List ℕ) → readInput input ≡ reading maxLines 0 maxLines input
+pub read-input : (input : List ℕ) → readInput input ≡ reading maxLines 0 maxLines input
 unfolding readInput
 read-input input = refl
 
@@ -77,32 +77,24 @@ too-long input store h =
 
 -- ---- an input that is read
 
-module _ (input store new : List ℕ) (a : Answer) (small : length input ≤ inputSize) (room : length store ≡ lineWidth * inputSize) (e : outcome (report a) (new ∷ []) ≡ readOutcome input store) where
-  reading-is : reading maxLines 0 (length store / lineWidth) input ≡ readInput input
-  reading-is = room-enough maxLines 0 (length store / lineWidth) maxLines input (omega arith) (omega arith) ∙ sym (read-input input)
-
+-- into a store with room for every line
+module _ (input store new : List ℕ) (a : Answer) (same : reading maxLines 0 (length store / lineWidth) input ≡ readInput input) (e : outcome (report a) (new ∷ []) ≡ readOutcome input store) where
   outcome-is : outcome (report a) (new ∷ []) ≡ outcome (readInput input .answer) (atFront (readInput input .stored) store ∷ [])
-  outcome-is = e ∙ read-outcome input store ∙ ap (λ (r : Reading). outcome (r .answer) (atFront (r .stored) store ∷ [])) reading-is
+  outcome-is = e ∙ read-outcome input store ∙ ap (λ (r : Reading). outcome (r .answer) (atFront (r .stored) store ∷ [])) same
 
-  answer-is : report a ≡ readInput input .answer
+  pub answer-is : report a ≡ readInput input .answer
   answer-is = ap (λ (o : Outcome). o .answer) outcome-is
 
   store-is : new ≡ atFront (readInput input .stored) store
   store-is = ap first-store outcome-is
 
-  then-load : loadAnswer input ≡ andThen (report a) (andThen (markCheck (readInput input .stored)) (counted (length (expansionOf input))))
-  then-load = load-answer input ∙ rw (le-ltb inputSize (length input) small, ← answer-is)
-
-  pub read-refused : (listing : List ℕ) → NoCount a → outcome (report a) (listing ∷ []) ≡ loadOutcome input listing
-  read-refused listing h =
+  pub refusal-read : NoCount a → Refusal (readInput input .answer)
+  refusal-read h =
       let c : CountOrRefusal (readInput input .answer) = rw (read-input input) (reading-answers maxLines 0 maxLines input) in
-      let f : Refusal (readInput input .answer) = no-count-refuses a h c answer-is in
-      let r : report a ≡ refused (f .number) (f .line) = answer-is ∙ f .is in
-      let q : loadAnswer input ≡ report a = then-load ∙ rw r in
-      ap (λ (r : Report). outcome r (listing ∷ [])) (sym q) ∙ load-refused input listing (record { number = f .number; line = f .line; is = q ∙ r })
+      no-count-refuses a h c answer-is
 
   module _ (n : ℕ) (counted-n : a ≡ Count n) where
-    count-is : readInput input .answer ≡ counted n
+    pub count-is : readInput input .answer ≡ counted n
     count-is = count-told counted-n answer-is
 
     stored-length : length (readInput input .stored) ≡ lineWidth * n
@@ -111,11 +103,33 @@ module _ (input store new : List ℕ) (a : Answer) (small : length input ≤ inp
         let r = reads-back maxLines 0 maxLines input n (readInput input .stored) (omega arith) (sym (read-input input) ∙ q) in
         ap length (r .stored-is) ∙ codes-length (r .lines-are) ∙ omega (arith, r .count)
 
-    pub read-fits : lineWidth * n ≤ length new
-    read-fits = omega (arith, ap length store-is, stored-length, length-append (readInput input .stored) (drop (length (readInput input .stored)) store))
+    pub stored-fits : lineWidth * n ≤ length new
+    stored-fits = omega (arith, ap length store-is, stored-length, length-append (readInput input .stored) (drop (length (readInput input .stored)) store))
 
-    pub read-part : take (lineWidth * n) new ≡ readInput input .stored
-    read-part = ap (take (lineWidth * n)) store-is ∙ take-at (readInput input .stored) (drop (length (readInput input .stored)) store) (lineWidth * n) stored-length
+    pub stored-part : take (lineWidth * n) new ≡ readInput input .stored
+    stored-part = ap (take (lineWidth * n)) store-is ∙ take-at (readInput input .stored) (drop (length (readInput input .stored)) store) (lineWidth * n) stored-length
+
+-- of the two programs, whose stores have room for a line for each byte
+module _ (input store new : List ℕ) (a : Answer) (small : length input ≤ inputSize) (room : length store ≡ lineWidth * inputSize) (e : outcome (report a) (new ∷ []) ≡ readOutcome input store) where
+  reading-is : reading maxLines 0 (length store / lineWidth) input ≡ readInput input
+  reading-is = room-enough maxLines 0 (length store / lineWidth) maxLines input (omega arith) (omega arith) ∙ sym (read-input input)
+
+  then-load : loadAnswer input ≡ andThen (report a) (andThen (markCheck (readInput input .stored)) (counted (length (expansionOf input))))
+  then-load = load-answer input ∙ rw (le-ltb inputSize (length input) small, ← answer-is input store new a reading-is e)
+
+  pub read-refused : (listing : List ℕ) → NoCount a → outcome (report a) (listing ∷ []) ≡ loadOutcome input listing
+  read-refused listing h =
+      let f : Refusal (readInput input .answer) = refusal-read input store new a reading-is e h in
+      let r : report a ≡ refused (f .number) (f .line) = answer-is input store new a reading-is e ∙ f .is in
+      let q : loadAnswer input ≡ report a = then-load ∙ rw r in
+      ap (λ (r : Report). outcome r (listing ∷ [])) (sym q) ∙ load-refused input listing (record { number = f .number; line = f .line; is = q ∙ r })
+
+  module _ (n : ℕ) (counted-n : a ≡ Count n) where
+    pub read-fits : lineWidth * n ≤ length new
+    read-fits = stored-fits input store new a reading-is e n counted-n
+
+    read-part : take (lineWidth * n) new ≡ readInput input .stored
+    read-part = stored-part input store new a reading-is e n counted-n
 
     goes-on : loadAnswer input ≡ andThen (markCheck (readInput input .stored)) (counted (length (expansionOf input)))
     goes-on = then-load ∙ rw counted-n

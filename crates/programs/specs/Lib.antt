@@ -2,3 +2,4 @@ pub mod Printing
 pub mod Reading
 pub mod Loading
 pub mod Running
+pub mod Verdicts

@@ -1,5 +1,6 @@
 // 'The two programs' of document 01: what they print of the bytes on standard input, written to a lent store, the expansion of the
-// program that the bytes are, and the trace of its run. reader.rt reads the lines of a text, lines.rt prints lines of numbers.
+// program that the bytes are, and the trace of its run. reader.rt reads the lines of a text, lines.rt prints
+// lines of numbers; verdict.rt has what the third program prints.
 ghost use mathlib.Core.Path.{_≡_};
 ghost use mathlib.Core.List.{[], _∷_};
 ghost use Prim.Native.Nat.{_*_, _≤_};
@@ -22,6 +23,7 @@ use model::STATE_SIZE;
 
 mod lines;
 mod reader;
+pub mod verdict;
 
 // The most bytes of an input.
 pub const INPUT_SIZE: usize = 4096;
@@ -80,7 +82,7 @@ fn load(input: &[u8], listing: &mut [u16]) -> Answer
 }
 
 // Writes the line of a refusal; nothing for another answer.
-fn write_refusal(answer: Answer, out: &mut [u8]) -> Answer
+pub(crate) fn write_refusal(answer: Answer, out: &mut [u8]) -> Answer
     ensures { λ r. ⌜ outcome (report r) (now (out .exit) ∷ []) ≡ fitted (orRefusal (report answer) []) (now (out .entry)) ⌝ }
 {
     match answer {
