@@ -2,9 +2,9 @@
 -- Assumes nothing.
 use Prim.Native.Nat.{ℕ, zero, suc, _+_, _-_, _*_, _≤_, _<_}
 use mathlib.Core.Path.{_≡_, refl, sym, ap, _∙_, subst}
-use mathlib.Core.Bool.{Bool, true, false, _&&_}
+use mathlib.Core.Bool.{true, false, _&&_}
 use mathlib.Core.List.{List, [], _∷_, _++_, append-assoc, append-nil}
-use mathlib.Core.Logic.{_⊎_, inl, inr}
+use mathlib.Core.Logic.{inl, inr}
 use native.Mathlib.Nat.{zero-add, suc-add, le-of-suc-le-suc}
 use native.Mathlib.Omega.{arith}
 use lib.Dec.{T, ltb, leb}
@@ -20,7 +20,7 @@ use Rattle.model.specs.Code.{code}
 use Rattle.model.specs.Images.{byKind, fixed, imageAt, image, toImageOutcome}
 use Rattle.model.proofs.TestLaws.{both-and}
 use Rattle.model.proofs.PlaceLaws.{mapAt-getD}
-use Rattle.walk.specs.Walk.{setWidth, maxValues, listed, listsFrom, listsOf, setsOf, sized, distinct, values}
+use Rattle.walk.specs.Walk.{setWidth, maxValues, listed, listsFrom, setsOf, sized, distinct, values}
 use Rattle.walk.specs.Claims.{In, OnlyImage, Images}
 use Rattle.walk.proofs.Members.{distinct-in}
 use Rattle.walk.proofs.Reports.{values-of}

@@ -13,12 +13,12 @@ use Rattle.model.specs.declared.Answer.the-variants.{Count}
 use Rattle.model.specs.declared.Line.{Line}
 use Rattle.model.specs.Layouts.{neighbours, near}
 use Rattle.model.specs.Limits.{lineWidth, maxLines}
-use Rattle.model.specs.Answers.{Report, done, report, counted, refused, outcome}
+use Rattle.model.specs.Answers.{Report, done, report, refused, outcome}
 use Rattle.model.specs.Stored.{codes}
 use Rattle.model.specs.Text.{Reading, reading, readOutcome, spellLine}
 use Rattle.model.specs.Marks.{Accepted}
 use Rattle.model.specs.Expansion.{expand}
-use Rattle.model.specs.Programs.{refusalText, orRefusal}
+use Rattle.model.specs.Programs.{orRefusal}
 use Rattle.model.proofs.RoundTrip.{reads-lines}
 use Rattle.model.proofs.ExpansionLaws.{expansion-most, expansion-correct}
 use Rattle.model.proofs.CheckAnswers.{NoCount, Refusal}
