@@ -5,12 +5,13 @@
  * lays down the numbers of a stored line, docs/LANGUAGE.md lists the refusals.
  *
  * Room that is always enough: 13 lines of expansion for each line, 34 bytes of text for each line, 6 numbers of trace for each step of
- * the budget. A state has 544 bytes, and sets of values have 17 bytes for each place of it: a count, 1 to 16, and the values.
+ * the budget. A state has 544 bytes. Sets of values have 17 bytes for each place, in the order of the state: a count, 1 to 16, the values,
+ * the rest ignored.
  *
  * An answer is one number. Of all functions but the last two: number * 2^32 + value, where number 0 is success and value its count, and
  * any other number is a refusal and value its line. Of dualrail_run and dualrail_judge: ending * 2^32 + counter * 2^16 + steps, ending 0
- * halted or balanced, 1 spent and 2 a leak, with its line for the counter, or, refused, number * 2^48 + line. A refusal leaves all lent memory as it was, except that a refused reading
- * leaves the lines before the bad one in the store.
+ * halted or balanced, 1 spent and 2 a leak, with its line for the counter, or, refused, number * 2^48 + line. A refusal leaves all lent
+ * memory as it was, except that a refused reading leaves the lines before the bad one in the store.
  */
 #ifndef DUALRAIL_H
 #define DUALRAIL_H
@@ -46,7 +47,8 @@ uint64_t dualrail_run(const uint16_t *program, size_t program_length, uint16_t s
                       size_t state_length, uint16_t *trace, size_t trace_length);
 
 /* Walks a stored program from line 0 on sets of values: balanced or spent says that all runs from values of the sets have equal traces
- * within the budget and end so, a leak gives the first line where two choices show different rows. Refusals 7, 3 to 6, 18, 21, 22. */
+ * with that budget and end so, a leak gives the first line where two choices show different rows. The sets are only read. Refusals 7,
+ * 3 to 6, 18, 22 at line 0; then at a step 21, 22. */
 uint64_t dualrail_judge(const uint16_t *program, size_t program_length, const uint8_t *sets, size_t sets_length, uint16_t budget);
 
 #ifdef __cplusplus

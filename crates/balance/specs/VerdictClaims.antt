@@ -1,4 +1,4 @@
--- Request 01 of what runs. `verdictReport`, `expandOutcome` and `runOutcome` are what the promises of `judge`, `expand` and `run` say of
+-- Request 01, said of the functions that run. `verdictReport`, `expandOutcome` and `runOutcome` are what the promises of `judge`, `expand` and `run` say of
 -- every call. Assumes nothing.
 use mathlib.Core.Path.{_≡_}
 use mathlib.Core.List.{List}
@@ -25,7 +25,7 @@ pub record AsJudged (r : Report) (x y : List ℕ) (one other : Outcome) : Type 0
   pub same : SameCalls x y one other
   pub told : one .answer ≡ r
 
--- sound: where `judge` was not refused and told of no leak, the runs from line 0 are as it says
+-- sound: where `judge` refused nothing and reported no leak, the runs from line 0 are as it says
 abbrev pub SoundCalls : Type 0
 SoundCalls = (q sets : List ℕ) (b : ℕ) (s t : State) (x y : List ℕ) → DrawnTwins sets b s t x y → Clear (verdictReport q sets b)
     → AsJudged (verdictReport q sets b) x y (runOutcome q 0 b s x) (runOutcome q 0 b t y)

@@ -1,4 +1,4 @@
-// Request 01 of what runs. specs/VerdictClaims states both claims of the calls of `judge`, `expand` and `run`, proofs/VerdictCalls proves them,
+// Request 01, said of the functions that run. specs/VerdictClaims states both claims of the calls of `judge`, `expand` and `run`, proofs/VerdictCalls proves them,
 // and the functions here, which call these entry points, promise them.
 ghost use mathlib.Core.Path.{_≡_};
 ghost use mathlib.Core.List.{[], _∷_};

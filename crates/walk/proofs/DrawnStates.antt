@@ -331,6 +331,7 @@ pub exact : ExactSteps
 exact S F l k =
     record {
       all-results = λ s D. in-written S l s F D;
+      each-once = written-once S l;
       no-others = λ x m. written-in S l x F m;
       like-rows = λ t s u D E. sym (steady-row S l k s F D t) ∙ steady-row S l k u F E t;
       unlike-rows =

@@ -1,4 +1,5 @@
--- Req 01, what a verdict means, what it is for expansions, and what a step on sets is. Each claim is whole.
+-- Req 01, what a verdict means, what it is for expansions, and what a step on sets is. Each claim stands alone: what it assumes is
+-- written in it.
 -- Assumes nothing.
 use mathlib.Core.Path.{_≡_}
 use mathlib.Core.Bool.{not}
@@ -79,7 +80,7 @@ unfoldable pub Once : List ℕ → Type 0
 Once [] = Unit {0}
 Once (x ∷ xs) = (In x xs → ⊥) × Once xs
 
--- 544 sets, each with a value, and each value once
+-- 544 sets, each with a value, and each value once: the sets of a start that is not refused are so, and a step keeps them so
 pub record Full (S : Sets) : Type 0 where
   pub long : length S ≡ stateSize
   pub some-in : (i : ℕ) → i < stateSize → 0 < length (values S i)
@@ -87,6 +88,7 @@ pub record Full (S : Sets) : Type 0 where
 
 pub record Exact (S : Sets) (l : Line) (k : ℕ) : Type 0 where
   pub all-results : (s : State) → Drawn S s → In (result l s) (written S l)
+  pub each-once : Once (written S l)
   pub no-others : (x : ℕ) → In x (written S l) → (s : State) × Drawn S s × (x ≡ result l s)
   pub like-rows : T (steady S l k) → (s u : State) → Drawn S s → Drawn S u → row l k s ≡ row l k u
   pub unlike-rows : T (not (steady S l k)) → (s : State) × (u : State) × Drawn S s × Drawn S u × (row l k s ≡ row l k u → ⊥)

@@ -63,7 +63,7 @@ unfolding visited
 visitedAll l k g [] = g
 visitedAll l k g (s ∷ ss) = visitedAll l k (visited l k g s) ss
 
--- where a line's places up to number `level` and its destination's base have one value each, and every place has some
+-- where a line's places before number `level` and its destination's base have one value each, and every place has some
 pub record Settled (S : Sets) (l : Line) (level : ℕ) : Type 0 where
   pub some-in : (i : ℕ) → 0 < length (values S i)
   pub aim : T (not (several (values S (base (l .destination)))))

@@ -159,7 +159,7 @@ unfoldable pub steady : Sets → Line → ℕ → Bool
 unfolding allShow row choices
 steady S l k = allShow l k (row l k (heads S)) (choices S l)
 
--- the written place gets all results; past 21 it is one place
+-- the written place gets all results; where 21 does not hold, it is one place
 unfoldable pub onto : Sets → Line → Sets
 unfolding written place
 onto S l = set S (place (l .destination) (heads S)) (written S l)
@@ -195,7 +195,7 @@ judged p sets budget =
     (Refused 22 0))
     (Refused 18 0)
 
--- the paper's number and values of each case: 0 balanced and 1 spent with counter and steps, 2 a leak with its line and the steps done before
+-- what each case reports: 0 balanced and 1 spent with counter and steps, as a run, 2 a leak with its line and the steps done before it
 abbrev pub told : Verdict → Report
 told (Balanced counter steps) = done (0 ∷ counter ∷ steps ∷ [])
 told (Spent counter steps) = done (1 ∷ counter ∷ steps ∷ [])

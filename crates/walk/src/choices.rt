@@ -118,7 +118,7 @@ fn is_at(sets: &[u8], i: usize, result: u8, distance: u16) -> bool
     true
 }
 
-// Whether a row is another but for the distance, and all old values of a place give the distance of that other row.
+// Whether `shown` is the first row but for the distance, and every old value of a place is at the first row's distance from the result.
 fn is_alike(row: &[u16], shown: [u16; ROW_WIDTH], sets: &[u8], i: usize, result: u8) -> bool
     requires { ⌜ (length (now row) ≡ rowWidth) × (length (now sets) ≡ setWidth * stateSize) ⌝ }
     ensures { λ r. ⌜ r ≡ alike (now (row .entry)) shown result (values (listsOf (now (sets .entry))) i) ⌝ }
@@ -141,7 +141,7 @@ fn keep_row(row: &mut [u16], new: &[u16], first: bool)
     }
 }
 
-// The numbers of a row.
+// Copies the numbers of a row.
 fn put_row(row: &mut [u16], new: &[u16])
     requires { ⌜ (length (now row) ≡ rowWidth) × (length (now new) ≡ rowWidth) ⌝ }
     ensures { λ r. ⌜ now (row .exit) ≡ now (new .entry) ⌝ }
@@ -180,7 +180,7 @@ fn visit(
     !is_alike(row, shown, sets, e.place, e.result)
 }
 
-// The count and the first value of a place's set, and the value that it has in the state.
+// Sets the count and the first value of a place's set, and the value that it has in the state.
 fn narrow(sets: &mut [u8], state: &mut [u8], i: usize, count: u8, value: u8)
     requires { ⌜ (length (now sets) ≡ setWidth * stateSize) × (length (now state) ≡ stateSize) × (i < stateSize) ⌝ }
     ensures { λ r. ⌜ (now (sets .exit) ≡ begun (now (sets .entry)) i count value) × (now (state .exit) ≡ set (now (state .entry)) i value) ⌝ }

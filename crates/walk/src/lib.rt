@@ -31,8 +31,8 @@ mod sets;
 // The bytes of the sets of all places.
 pub const SETS_SIZE: usize = SET_WIDTH * STATE_SIZE;
 
-// What the walk answers: where a run would be halted or spent, its counter and steps; the first line where two choices give different
-// rows, and the steps done before it; or the number of the condition that holds, and the line.
+// What the walk answers: balanced or spent, as a run would be halted or spent, with counter and steps; a leak, with the first line where
+// two choices give different rows and the steps done before it; or the number of the condition that holds, and the line.
 pub enum Verdict {
     Balanced { counter: u16, steps: u16 },
     Spent { counter: u16, steps: u16 },
@@ -210,7 +210,7 @@ fn take_sets(sets: &[u8], own: &mut [u8], state: &mut [u8])
     }
 }
 
-// The refusal of a program's check.
+// The refusal of a program's check. The check answers a count or a refusal, so 0 never occurs.
 fn refusal_of(checked: Answer) -> Verdict
     ensures { λ r. ⌜ r ≡ refusalOf checked ⌝ }
 {

@@ -47,7 +47,7 @@ pub(crate) fn is_several(sets: &[u8], i: usize) -> bool
     1 < size_of(sets, i)
 }
 
-// The bytes of a place's set.
+// Writes the bytes of a place's set.
 pub(crate) fn put_set(sets: &mut [u8], i: usize, new: &[u8])
     requires { ⌜ (length (now sets) ≡ setWidth * stateSize) × (setWidth ≤ length (now new)) ⌝ }
     ensures { λ r. ⌜ listsOf (now (sets .exit)) ≡ set (listsOf (now (sets .entry))) i (listed (take setWidth (now (new .entry)))) ⌝ }
