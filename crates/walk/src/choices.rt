@@ -11,12 +11,15 @@ ghost use Rattle.model.specs.Limits.{stateSize, lineWidth, rowWidth};
 ghost use Rattle.model.specs.Stored.{operandOf};
 ghost use Rattle.walk.specs.Walk.{setWidth, maxValues, listed, listsOf, values, several, heads, base, draw, involved, sameRow};
 ghost use Rattle.walk.specs.Gathering.{lineBy, argumentPlaces, spot, gathered, visitedAll, Settled, Opens, allAt, alike, begun};
-use crate::sets::MAX_VALUES;
+use crate::SETS_SIZE;
+use crate::sets::ROOM;
 use crate::sets::SET_WIDTH;
+use crate::sets::is_overfull;
 use crate::sets::is_several;
 use crate::sets::note;
 use crate::sets::size_of;
 use crate::sets::value_of;
+use model::LINE_WIDTH;
 use model::ROW_WIDTH;
 use model::STATE_SIZE;
 
@@ -171,7 +174,7 @@ fn visit(
     let shown = e.row;
     keep_row(row, &shown, found[0] == 0);
     note(found, e.result);
-    if MAX_VALUES < (found[0] as usize) {
+    if is_overfull(found) {
         return leak;
     }
     if leak {
@@ -201,22 +204,23 @@ fn value_beside(sets: &[u8], i: usize, first: u8, j: usize) -> u8
     sets[SET_WIDTH * i + 1 + j]
 }
 
-// The choices from place number `level` of the arguments on. Sets and state are left as they were.
+// The choices from place number `level` of the arguments on. Sets and state are left as they were. The stores' sizes stand in their types, so
+// that each call hands on five pointers and no lengths.
 pub(crate) fn explore(
-    line: &[u16],
+    line: &[u16; LINE_WIDTH],
     counter: u16,
-    row: &mut [u16],
+    row: &mut [u16; ROW_WIDTH],
     level: usize,
-    sets: &mut [u8],
-    state: &mut [u8],
-    found: &mut [u8],
+    sets: &mut [u8; SETS_SIZE],
+    state: &mut [u8; STATE_SIZE],
+    found: &mut [u8; ROOM],
     leak: bool,
 ) -> bool
-    requires { ⌜ (length (now line) ≡ lineWidth) × (length (now row) ≡ rowWidth) × (level ≤ argumentPlaces) × (length (now sets) ≡ setWidth * stateSize) × (now state ≡ heads (listsOf (now sets))) × (length (now found) ≡ suc setWidth) × (getD (now found) 0 0 ≤ setWidth) × Settled (listsOf (now sets)) (lineBy (now line)) level ⌝ }
-    ensures { λ r. ⌜ (gathered (listed (now (found .exit))) r (now (row .exit)) ≡ visitedAll (lineBy (now (line .entry))) counter (gathered (listed (now (found .entry))) leak (now (row .entry))) (draw (listsOf (now (sets .entry))) (drop level (involved (lineBy (now (line .entry))))))) × (getD (now (found .exit)) 0 0 ≤ setWidth) ⌝ }
+    requires { ⌜ (level ≤ argumentPlaces) × (now state ≡ heads (listsOf (now sets))) × (getD (now found) 0 0 ≤ setWidth) × Settled (listsOf (now sets)) (lineBy (now line)) level ⌝ }
+    ensures { λ r. ⌜ (gathered (listed (now (found .exit))) r (now (row .exit)) ≡ visitedAll (lineBy (now (line .entry))) counter (gathered (listed (now (found .entry))) leak (now (row .entry))) (draw (listsOf (now (sets .entry))) (drop level (involved (lineBy (now (line .entry))))))) × (getD (now (found .exit)) 0 0 ≤ setWidth) × (length (now (found .exit)) ≡ suc setWidth) ⌝ }
     ensures { λ r. ⌜ (now (sets .exit) ≡ now (sets .entry)) × (now (state .exit) ≡ now (state .entry)) ⌝ }
 {
-    if MAX_VALUES < (found[0] as usize) {
+    if is_overfull(found) {
         return leak;
     }
     let open = next_open(line, level, sets, state);
@@ -230,7 +234,8 @@ pub(crate) fn explore(
     let mut seen = leak;
     let mut j = 0;
     while j < n {
-        narrow(sets, state, at, 1, value_beside(sets, at, first, j));
+        let value = value_beside(sets, at, first, j);
+        narrow(sets, state, at, 1, value);
         seen = explore(line, counter, row, open.level + 1, sets, state, found, seen);
         j += 1;
     }

@@ -5,7 +5,7 @@ ghost use Prim.Native.Nat.{ℕ, _*_, _<_, _≤_};
 ghost use lib.Dec.{T};
 ghost use lib.ListN.{length, getD};
 ghost use Rattle.model.specs.Limits.{stateSize, lineWidth, maxLines};
-ghost use Rattle.model.specs.Stored.{operandOf, opcodeOf, lineCount, lines};
+ghost use Rattle.model.specs.Stored.{operandOf, lineCount, lines};
 ghost use Rattle.walk.specs.Walk.{setWidth, maxValues, listed, listsOf, setsOf, sized, values, distinct, heads, branches, loose, unsettled, onto, walk, told, verdictReport};
 ghost use Rattle.walk.specs.Claims.{Full};
 ghost use Rattle.walk.specs.Gathering.{lineBy, moves, refusalOf};
@@ -13,12 +13,14 @@ ghost use Rattle.walk.specs.declared.Move.the-variants.{To};
 use choices::base_of;
 use choices::explore;
 use model::Answer;
+use model::LINE_WIDTH;
 use model::Opcode;
 use model::ROW_WIDTH;
 use model::STATE_SIZE;
 use sets::MAX_VALUES;
 use sets::ROOM;
 use sets::SET_WIDTH;
+use sets::is_overfull;
 use sets::is_several;
 use sets::note;
 use sets::put_set;
@@ -97,8 +99,13 @@ fn is_unsettled(line: &[u16], sets: &[u8], state: &[u8]) -> bool
 }
 
 // One step on sets. Where the walk goes on, the sets and their first values are those after it.
-fn step(line: &[u16], counter: u16, sets: &mut [u8], state: &mut [u8]) -> Move
-    requires { ⌜ (length (now line) ≡ lineWidth) × (counter < 65535) × (length (now sets) ≡ setWidth * stateSize) × (now state ≡ heads (listsOf (now sets))) × Full (listsOf (now sets)) ⌝ }
+fn step(
+    line: &[u16; LINE_WIDTH],
+    counter: u16,
+    sets: &mut [u8; SETS_SIZE],
+    state: &mut [u8; STATE_SIZE],
+) -> Move
+    requires { ⌜ (counter < 65535) × (now state ≡ heads (listsOf (now sets))) × Full (listsOf (now sets)) ⌝ }
     ensures { λ r. ⌜ r ≡ moves (listsOf (now (sets .entry))) (lineBy (now (line .entry))) counter ⌝ }
     ensures { λ r. ⌜ ((n : ℕ) → r ≡ To n → (listsOf (now (sets .exit)) ≡ onto (listsOf (now (sets .entry))) (lineBy (now (line .entry)))) × (now (state .exit) ≡ heads (listsOf (now (sets .exit))))) ⌝ }
 {
@@ -108,7 +115,7 @@ fn step(line: &[u16], counter: u16, sets: &mut [u8], state: &mut [u8]) -> Move
     let mut row = [0u16; ROW_WIDTH];
     let mut found = [0u8; ROOM];
     let leak = explore(line, counter, &mut row, 0, sets, state, &mut found, false);
-    if MAX_VALUES < (found[0] as usize) {
+    if is_overfull(&found) {
         return Move::Refuses(22);
     }
     if leak {
@@ -126,10 +133,10 @@ fn walk_lines(
     program: &[u16],
     count: u16,
     budget: u16,
-    sets: &mut [u8],
-    state: &mut [u8],
+    sets: &mut [u8; SETS_SIZE],
+    state: &mut [u8; STATE_SIZE],
 ) -> Verdict
-    requires { ⌜ (count ≡ lineCount (now program)) × (count ≤ maxLines) × (length (now sets) ≡ setWidth * stateSize) × (now state ≡ heads (listsOf (now sets))) × Full (listsOf (now sets)) ⌝ }
+    requires { ⌜ (count ≡ lineCount (now program)) × (count ≤ maxLines) × (now state ≡ heads (listsOf (now sets))) × Full (listsOf (now sets)) ⌝ }
     ensures { λ r. ⌜ r ≡ walk (lines (now (program .entry))) budget 0 0 (listsOf (now (sets .entry))) ⌝ }
 {
     let mut counter: u16 = 0;

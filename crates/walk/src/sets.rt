@@ -1,11 +1,11 @@
 // Sets of values as bytes, 17 for each place: their count, the values, the rest ignored. Where there is no place, past the last one, 0 is
 // the one value and nothing is written.
 ghost use mathlib.Core.Path.{_≡_};
-ghost use mathlib.Core.List.{[], _∷_};
 ghost use Prim.Native.Nat.{suc, _*_, _<_, _≤_};
+ghost use lib.Dec.{ltb};
 ghost use lib.ListN.{length, getD, set, take};
 ghost use Rattle.model.specs.Limits.{stateSize};
-ghost use Rattle.walk.specs.Walk.{setWidth, maxValues, listed, listsOf, sized, values, several, member, insert, distinct};
+ghost use Rattle.walk.specs.Walk.{setWidth, maxValues, listed, listsOf, values, several, member, insert};
 use model::STATE_SIZE;
 
 // The most values of a set, and the bytes of one.
@@ -90,4 +90,12 @@ pub(crate) fn note(found: &mut [u8], x: u8)
     let n = found[0];
     found[1 + (n as usize)] = x;
     found[0] = n + 1;
+}
+
+// Whether more values were gathered than a set may have.
+pub(crate) fn is_overfull(found: &[u8]) -> bool
+    requires { ⌜ (length (now found) ≡ suc setWidth) × (getD (now found) 0 0 ≤ setWidth) ⌝ }
+    ensures { λ r. ⌜ r ≡ ltb maxValues (length (listed (now (found .entry)))) ⌝ }
+{
+    MAX_VALUES < (found[0] as usize)
 }

@@ -3,7 +3,6 @@ use mathlib.Core.Path.{_≡_, refl, sym, ap, _∙_}
 use mathlib.Core.List.{List}
 use Prim.Native.Nat.{ℕ, _-_, _≤_}
 use native.Mathlib.Omega.{arith}
-use lib.ListN.{length}
 use Rattle.model.specs.Stored.{lines, lineAt}
 use Rattle.walk.specs.Walk.{listsOf, heads, onto, walk}
 use Rattle.walk.specs.Claims.{Full}
@@ -16,7 +15,7 @@ use Rattle.walk.proofs.walk_lines.Tie as tie
 
 abbrev Inv-loop : tie.InvT-loop
 Inv-loop program count budget sets₀ state₀ counter₀ steps₀ sets state counter steps =
-    (steps ≤ budget) × (length sets ≡ length sets₀) × (length state ≡ length state₀) × (state ≡ heads (listsOf sets)) × Full (listsOf sets)
+    (steps ≤ budget) × (state ≡ heads (listsOf sets)) × Full (listsOf sets)
     × (walk (lines program) (budget - steps) counter steps (listsOf sets) ≡ walk (lines program) budget 0 0 (listsOf sets₀))
 
 abbrev μ-loop : tie.MeasureT-loop
@@ -24,27 +23,17 @@ abbrev μ-loop : tie.MeasureT-loop
 
 loop-holds : tie.Need-loop-holds Inv-loop μ-loop
 loop-holds c =
-    let p = c .before .before .before .pre in
-    (omega arith, refl, refl, p .3, p .4, begins _ _ _)
-
-same-length : tie.Need-same-length Inv-loop μ-loop
-same-length c =
-    let m = c .before .before .loop in
-    m .inv .1
-
-same-length-2 : tie.Need-same-length-2 Inv-loop μ-loop
-same-length-2 c =
-    let m = c .before .before .loop in
-    m .inv .2
+    let p = c .before .pre in
+    (omega arith, p .2, p .3, begins _ _ _)
 
 returns : tie.Need-returns Inv-loop μ-loop
 returns c =
-    let i1 = c .if1 in
-    let t = c .before .loop-test in
+    let x = c .before .before .before .before .args in
     let m = c .before .before .loop in
-    let x = c .before .before .before .before .before .before .args in
-    let p = c .before .before .before .before .before .before .pre in
-    spends (x .program .now) (m .counter) (m .steps) (x .budget) (listsOf (m .sets)) (omega (arith, p .0, t .taken)) (i1 .taken) ∙ m .inv .5
+    let p = c .before .before .before .before .pre in
+    let t = c .before .loop-test in
+    let i1 = c .if1 in
+    spends (x .program .now) (m .counter) (m .steps) (x .budget) (listsOf (m .sets)) (omega (arith, p .0, t .taken)) (i1 .taken) ∙ m .inv .3
 
 cast-numbers-at : tie.Need-cast-numbers-at Inv-loop μ-loop
 cast-numbers-at c = search needs
@@ -52,15 +41,12 @@ cast-numbers-at c = search needs
 numbers-at-requires : tie.Need-numbers-at-requires Inv-loop μ-loop
 numbers-at-requires c κs = search needs
 
-slice-aggregate-step : tie.Need-slice-aggregate-step Inv-loop μ-loop
-slice-aggregate-step c = search needs
-
 step-requires : tie.Need-step-requires Inv-loop μ-loop
 step-requires c κs =
+    let p = c .before .before .before .before .before .before .before .before .pre in
     let t = c .before .before .before .before .before .loop-test in
     let m = c .before .before .before .before .before .before .loop in
-    let p = c .before .before .before .before .before .before .before .before .before .before .pre in
-    (search needs, omega (arith, p .1, t .taken), m .inv .1 ∙ p .2, m .inv .3, m .inv .4)
+    (omega (arith, p .1, t .taken), m .inv .1, m .inv .2)
 
 enum-known-moved : tie.Need-enum-known-moved Inv-loop μ-loop
 enum-known-moved c = search needs
@@ -73,96 +59,60 @@ loop-less c = search needs
 
 loop-again : tie.Need-loop-again Inv-loop μ-loop
 loop-again c =
+    let f = c .before .before .before .step in
+    let m = c .before .before .before .before .before .before .before .before .before .before .loop in
+    let n = c .before .before .before .before .before .before .before .numbers-at in
     let d = c .before .moved in
-    let f = c .before .before .before .before .before .before .before .step in
-    let n = c .before .before .before .before .before .before .before .before .before .before .before .numbers-at in
-    let i1 = c .before .before .before .before .before .before .before .before .before .before .before .before .if1 in
-    let t = c .before .before .before .before .before .before .before .before .before .before .before .before .before .loop-test in
-    let m = c .before .before .before .before .before .before .before .before .before .before .before .before .before .before .loop in
-    let x = c .before .before .before .before .before .before .before .before .before .before .before .before .before .before .before .before .before .before .args in
-    let p = c .before .before .before .before .before .before .before .before .before .before .before .before .before .before .before .before .before .before .pre in
+    let i1 = c .before .before .before .before .before .before .before .before .if1 in
+    let x = c .before .before .before .before .before .before .before .before .before .before .before .before .args in
+    let p = c .before .before .before .before .before .before .before .before .before .before .before .before .pre in
+    let t = c .before .before .before .before .before .before .before .before .before .loop-test in
     let e = (f .ensures .0 ∙ ap (λ (a : List ℕ). moves (listsOf (m .sets)) (lineBy a) (m .counter)) (n .ensures)) in
     let w = f .ensures .1 (d .given .0 .0) (d .given .1) in
     let s = w .0 ∙ ap (λ (a : List ℕ). onto (listsOf (m .sets)) (lineBy a)) (n .ensures) in (
       omega (arith, i1 .left),
-      f .kept .1 .1 .0 ∙ m .inv .1,
-      f .kept .1 .1 .1 .0 ∙ m .inv .2,
       w .1,
-      rw s (onto-full (listsOf (m .sets)) (lineAt (x .program .now) (m .counter)) (m .inv .4)),
-      goes-on (x .program .now) (m .counter) (m .steps) (x .budget) (listsOf (m .sets)) (omega (arith, p .0, t .taken)) (i1 .left) _ _ _ _ e (d .given .1) s (m .inv .5),
+      rw s (onto-full (listsOf (m .sets)) (lineAt (x .program .now) (m .counter)) (m .inv .2)),
+      goes-on (x .program .now) (m .counter) (m .steps) (x .budget) (listsOf (m .sets)) (omega (arith, p .0, t .taken)) (i1 .left) _ _ _ _ e (d .given .1) s (m .inv .3),
     )
 
 enum-told : tie.Need-enum-told Inv-loop μ-loop
 enum-told c = search needs
 
-same-length-3 : tie.Need-same-length-3 Inv-loop μ-loop
-same-length-3 c =
-    let f = c .before .before .before .before .before .before .step in
-    let m = c .before .before .before .before .before .before .before .before .before .before .before .before .before .loop in
-    f .kept .1 .1 .0 ∙ m .inv .1
-
-same-length-4 : tie.Need-same-length-4 Inv-loop μ-loop
-same-length-4 c =
-    let f = c .before .before .before .before .before .before .step in
-    let m = c .before .before .before .before .before .before .before .before .before .before .before .before .before .loop in
-    f .kept .1 .1 .1 .0 ∙ m .inv .2
-
 returns-2 : tie.Need-returns-2 Inv-loop μ-loop
 returns-2 c =
+    let x = c .before .before .before .before .before .before .before .before .before .before .before .args in
+    let m = c .before .before .before .before .before .before .before .before .before .loop in
+    let p = c .before .before .before .before .before .before .before .before .before .before .before .pre in
+    let t = c .before .before .before .before .before .before .before .before .loop-test in
+    let i1 = c .before .before .before .before .before .before .before .if1 in
     let g = c .enum-told in
-    let f = c .before .before .before .before .before .before .step in
-    let n = c .before .before .before .before .before .before .before .before .before .before .numbers-at in
-    let i1 = c .before .before .before .before .before .before .before .before .before .before .before .if1 in
-    let t = c .before .before .before .before .before .before .before .before .before .before .before .before .loop-test in
-    let m = c .before .before .before .before .before .before .before .before .before .before .before .before .before .loop in
-    let x = c .before .before .before .before .before .before .before .before .before .before .before .before .before .before .before .before .before .args in
-    let p = c .before .before .before .before .before .before .before .before .before .before .before .before .before .before .before .before .before .pre in
-    ends (x .program .now) (m .counter) (m .steps) (x .budget) (listsOf (m .sets)) (omega (arith, p .0, t .taken)) (i1 .left) _ _ (sym (g .given .1) ∙ (f .ensures .0 ∙ ap (λ (a : List ℕ). moves (listsOf (m .sets)) (lineBy a) (m .counter)) (n .ensures))) refl ∙ m .inv .5
+    let f = c .before .before .step in
+    let n = c .before .before .before .before .before .before .numbers-at in
+    ends (x .program .now) (m .counter) (m .steps) (x .budget) (listsOf (m .sets)) (omega (arith, p .0, t .taken)) (i1 .left) _ _ (sym (g .given .1) ∙ (f .ensures .0 ∙ ap (λ (a : List ℕ). moves (listsOf (m .sets)) (lineBy a) (m .counter)) (n .ensures))) refl ∙ m .inv .3
 
 enum-known-moved-2 : tie.Need-enum-known-moved-2 Inv-loop μ-loop
 enum-known-moved-2 c = search needs
 
-same-length-5 : tie.Need-same-length-5 Inv-loop μ-loop
-same-length-5 c =
-    let f = c .before .before .before .before .before .before .before .step in
-    let m = c .before .before .before .before .before .before .before .before .before .before .before .before .before .before .loop in
-    f .kept .1 .1 .0 ∙ m .inv .1
-
-same-length-6 : tie.Need-same-length-6 Inv-loop μ-loop
-same-length-6 c =
-    let f = c .before .before .before .before .before .before .before .step in
-    let m = c .before .before .before .before .before .before .before .before .before .before .before .before .before .before .loop in
-    f .kept .1 .1 .1 .0 ∙ m .inv .2
-
 returns-3 : tie.Need-returns-3 Inv-loop μ-loop
 returns-3 c =
+    let x = c .before .before .before .before .before .before .before .before .before .before .before .before .args in
+    let m = c .before .before .before .before .before .before .before .before .before .before .loop in
+    let p = c .before .before .before .before .before .before .before .before .before .before .before .before .pre in
+    let t = c .before .before .before .before .before .before .before .before .before .loop-test in
+    let i1 = c .before .before .before .before .before .before .before .before .if1 in
     let d = c .before .moved2 in
-    let f = c .before .before .before .before .before .before .before .step in
-    let n = c .before .before .before .before .before .before .before .before .before .before .before .numbers-at in
-    let i1 = c .before .before .before .before .before .before .before .before .before .before .before .before .if1 in
-    let t = c .before .before .before .before .before .before .before .before .before .before .before .before .before .loop-test in
-    let m = c .before .before .before .before .before .before .before .before .before .before .before .before .before .before .loop in
-    let x = c .before .before .before .before .before .before .before .before .before .before .before .before .before .before .before .before .before .before .args in
-    let p = c .before .before .before .before .before .before .before .before .before .before .before .before .before .before .before .before .before .before .pre in
-    ends (x .program .now) (m .counter) (m .steps) (x .budget) (listsOf (m .sets)) (omega (arith, p .0, t .taken)) (i1 .left) _ _ (sym (d .given .1) ∙ (f .ensures .0 ∙ ap (λ (a : List ℕ). moves (listsOf (m .sets)) (lineBy a) (m .counter)) (n .ensures))) refl ∙ m .inv .5
-
-same-length-7 : tie.Need-same-length-7 Inv-loop μ-loop
-same-length-7 c =
-    let m = c .before .loop in
-    m .inv .1
-
-same-length-8 : tie.Need-same-length-8 Inv-loop μ-loop
-same-length-8 c =
-    let m = c .before .loop in
-    m .inv .2
+    let f = c .before .before .before .step in
+    let n = c .before .before .before .before .before .before .before .numbers-at in
+    ends (x .program .now) (m .counter) (m .steps) (x .budget) (listsOf (m .sets)) (omega (arith, p .0, t .taken)) (i1 .left) _ _ (sym (d .given .1) ∙ (f .ensures .0 ∙ ap (λ (a : List ℕ). moves (listsOf (m .sets)) (lineBy a) (m .counter)) (n .ensures))) refl ∙ m .inv .3
 
 returns-4 : tie.Need-returns-4 Inv-loop μ-loop
 returns-4 c =
-    let t = c .loop-test in
+    let x = c .before .before .before .args in
     let m = c .before .loop in
-    let x = c .before .before .before .before .before .args in
-    let p = c .before .before .before .before .before .pre in
-    balances (x .program .now) (m .counter) (m .steps) (x .budget) (listsOf (m .sets)) (omega (arith, p .0, t .left)) ∙ m .inv .5
+    let p = c .before .before .before .pre in
+    let t = c .loop-test in
+    balances (x .program .now) (m .counter) (m .steps) (x .budget) (listsOf (m .sets)) (omega (arith, p .0, t .left)) ∙ m .inv .3
 
 pub walk-lines-spec : {M : Type 1} → statement M
 walk-lines-spec =
@@ -171,25 +121,16 @@ walk-lines-spec =
     Inv-loop
     μ-loop
     loop-holds
-    same-length
-    same-length-2
     returns
     cast-numbers-at
     numbers-at-requires
-    slice-aggregate-step
     step-requires
     enum-known-moved
     add-steps
     loop-less
     loop-again
     enum-told
-    same-length-3
-    same-length-4
     returns-2
     enum-known-moved-2
-    same-length-5
-    same-length-6
     returns-3
-    same-length-7
-    same-length-8
     returns-4)

@@ -4,12 +4,12 @@ use mathlib.Core.Path.{_≡_, refl, sym, ap, _∙_}
 use mathlib.Core.List.{List}
 use Prim.Native.Nat.{ℕ, suc, _+_, _-_, _≤_, _<_}
 use native.Mathlib.Omega.{arith}
+use borrow.Author.Tests.{ltb-true, ltb-false}
 use lib.ListN.{length, getD, drop}
 use borrow.Author.Needs.{needs}
 use borrow.Fn.Kinds.{In}
 use borrow.Fn.PlainCycle.{Measures, is, falls, and}
-use Rattle.model.specs.Limits.{rowWidth}
-use Rattle.walk.specs.Walk.{setWidth, listed, listsOf, values, heads, draw, involved}
+use Rattle.walk.specs.Walk.{maxValues, setWidth, listed, listsOf, values, heads, draw, involved}
 use Rattle.walk.specs.Gathering.{gathered, visitedAll, lineBy, argumentPlaces}
 use Rattle.walk.proofs.SetBytes.{listed-few}
 use Rattle.walk.proofs.Gathered.{many-stays}
@@ -21,6 +21,7 @@ use Rattle.walk.proofs.choices.narrow.Reads as narrow-reads
 use Rattle.walk.proofs.choices.next_open.Reads as next-open-reads
 use Rattle.walk.proofs.choices.value_beside.Reads as value-beside-reads
 use Rattle.walk.proofs.choices.visit.Reads as visit-reads
+use Rattle.walk.proofs.sets.is_overfull.Reads as is-overfull-reads
 use Rattle.walk.proofs.sets.size_of.Reads as size-of-reads
 use Rattle.walk.proofs.choices.+explore.{statement}
 use Rattle.walk.proofs.choices.+explore.Tie.{close}
@@ -37,6 +38,8 @@ explore-below t = and 5 explore-kinds.ps (falls 5 explore-kinds.ps _<_ μ-explor
 -- what the functions called promise, and this one of smaller measure
 abbrev claims : ℕ → explore-lts.Claims
 claims t = (
+  is-overfull-reads.Asked,
+  is-overfull-reads.Learnt,
   next-open-reads.Asked,
   next-open-reads.Learnt,
   visit-reads.Asked,
@@ -53,64 +56,59 @@ claims t = (
 
 abbrev explore-Inv-loop : explore-lts.InvT-loop
 explore-Inv-loop line counter row₀ level sets₀ state₀ found₀ leak «open» at count first n seen₀ j₀ row sets state found seen j =
-    (n ≡ length (values (listsOf sets₀) at)) × (length row ≡ rowWidth) × (length found ≡ suc setWidth) × (getD found 0 0 ≤ setWidth)
+    (n ≡ length (values (listsOf sets₀) at)) × (getD found 0 0 ≤ setWidth) × (length found ≡ suc setWidth)
     × Turned (lineBy line) counter sets₀ state₀ level («open» .level) at (gathered (listed found₀) leak row₀) sets state (gathered (listed found) seen row) j
 
 abbrev explore-μ-loop : explore-lts.MeasureT-loop
 explore-μ-loop line counter row₀ level sets₀ state₀ found₀ leak «open» at count first n seen₀ j₀ row sets state found seen j = n - j
 
-explore-slice-read-if1 : (t : ℕ) → explore-lts.Need-slice-read-if1 (claims t) (explore-at t) explore.Post explore-Inv-loop explore-μ-loop
-explore-slice-read-if1 t c =
-    let p = c .before .before .before .before .before .before .pre in
-    omega (arith, p .1 .5)
-
-explore-cast-if1 : (t : ℕ) → explore-lts.Need-cast-if1 (claims t) (explore-at t) explore.Post explore-Inv-loop explore-μ-loop
-explore-cast-if1 t c = search needs
+explore-is-overfull-requires : (t : ℕ) → explore-lts.Need-is-overfull-requires (claims t) (explore-at t) explore.Post explore-Inv-loop explore-μ-loop
+explore-is-overfull-requires t c κs =
+    let fa = c .is-overfull-arg2 in
+    let p = c .before .before .pre in
+    (fa .given .0, p .1 .2)
 
 explore-returns : (t : ℕ) → explore-lts.Need-returns (claims t) (explore-at t) explore.Post explore-Inv-loop explore-μ-loop
 explore-returns t c =
-    let x = c .before .before .before .before .before .before .before .args in
-    let p = c .before .before .before .before .before .before .before .pre in
-    ((sym (many-stays _ _ _ _ (omega (arith, listed-few (x .found .now) setWidth (p .1 .5) (p .1 .6)))), p .1 .6), (refl, refl))
+    let f = c .before .is-overfull in
+    let i1 = c .if1 in
+    let p = c .before .before .before .before .pre in
+    let fa = c .before .before .is-overfull-arg2 in
+    ((sym (many-stays _ _ _ _ (ltb-true _ _ (sym (f .ensures) ∙ i1 .taken))), p .1 .2, fa .given .0), (refl, refl))
 
 explore-next-open-requires : (t : ℕ) → explore-lts.Need-next-open-requires (claims t) (explore-at t) explore.Post explore-Inv-loop explore-μ-loop
 explore-next-open-requires t c κs =
+    let la = c .before .before .before .before .next-open-arg in
     let p = c .before .before .before .before .before .before .before .before .before .pre in
-    (p .1 .0, p .1 .2, p .1 .3, p .1 .4, p .1 .7)
+    let sa = c .before .before .next-open-arg3 in
+    (la .given .0, p .1 .0, sa .given .0, p .1 .1, p .1 .3)
 
 explore-visit-requires : (t : ℕ) → explore-lts.Need-visit-requires (claims t) (explore-at t) explore.Post explore-Inv-loop explore-μ-loop
 explore-visit-requires t c κs =
-    let o = c .before .before .before .before .before .before .next-open in
-    let i2 = c .before .before .before .before .if2 in
-    let p = c .before .before .before .before .before .before .before .before .before .before .before .before .before .before .before .before .pre in
-    let i1 = c .before .before .before .before .before .before .before .before .before .if1 in
+    let o = c .before .before .before .before .before .before .before .before .before .next-open in
+    let i2 = c .before .before .before .before .before .before .before .if2 in
+    let p = c .before .before .before .before .before .before .before .before .before .before .before .before .before .before .before .before .before .before .before .pre in
+    let x = c .before .before .before .before .before .before .before .before .before .before .before .before .before .before .before .before .before .before .before .args in
+    let f = c .before .before .before .before .before .before .before .before .before .before .before .before .before .before .before .before .is-overfull in
+    let i1 = c .before .before .before .before .before .before .before .before .before .before .before .before .before .before .before .if1 in
+    let fa = c .before .before .before .before .before .before .before .before .before .before .before .before .before .before .before .before .before .is-overfull-arg2 in
     let z : o .result .level ≡ argumentPlaces = omega (arith, o .ensures .most, i2 .taken) in
-    (p .1 .0, p .1 .1, p .1 .3, p .1 .4, p .1 .5, i1 .left, rw z at (o .ensures .settled))
-
-explore-same-length : (t : ℕ) → explore-lts.Need-same-length (claims t) (explore-at t) explore.Post explore-Inv-loop explore-μ-loop
-explore-same-length t c = search needs
-
-explore-same-length-2 : (t : ℕ) → explore-lts.Need-same-length-2 (claims t) (explore-at t) explore.Post explore-Inv-loop explore-μ-loop
-explore-same-length-2 t c = search needs
-
-explore-same-length-3 : (t : ℕ) → explore-lts.Need-same-length-3 (claims t) (explore-at t) explore.Post explore-Inv-loop explore-μ-loop
-explore-same-length-3 t c = search needs
-
-explore-same-length-4 : (t : ℕ) → explore-lts.Need-same-length-4 (claims t) (explore-at t) explore.Post explore-Inv-loop explore-μ-loop
-explore-same-length-4 t c = search needs
+    (search needs, search needs, search needs, p .1 .1, search needs, omega (arith, ltb-false maxValues (length (listed (x .found .now))) (sym (f .ensures) ∙ i1 .left), listed-few (x .found .now) setWidth (fa .given .0) (p .1 .2)), rw z at (o .ensures .settled))
 
 explore-returns-2 : (t : ℕ) → explore-lts.Need-returns-2 (claims t) (explore-at t) explore.Post explore-Inv-loop explore-μ-loop
 explore-returns-2 t c =
-    let o = c .before .before .before .before .before .before .before .before .before .before .before .next-open in
-    let i2 = c .before .before .before .before .before .before .before .before .before .if2 in
-    let x = c .before .before .before .before .before .before .before .before .before .before .before .before .before .before .before .before .before .before .before .before .before .args in
-    let u = c .before .before .before .before .visit in
+    let o = c .before .before .before .before .before .before .before .before .before .before .next-open in
+    let i2 = c .before .before .before .before .before .before .before .before .if2 in
+    let x = c .before .before .before .before .before .before .before .before .before .before .before .before .before .before .before .before .before .before .before .before .args in
+    let u = c .visit in
+    let fa = c .before .before .before .before .before .before .before .before .before .before .before .before .before .before .before .before .before .before .is-overfull-arg2 in
     let z : o .result .level ≡ argumentPlaces = omega (arith, o .ensures .most, i2 .taken) in
     let l = lineBy (x .line .now) in
     let S = listsOf (x .sets .now) in (
       (
         u .ensures .0 ∙ sym (ap (visitedAll l (x .counter) (gathered (listed (x .found .now)) (x .leak) (x .row .now))) (o .ensures .same ∙ ap (λ (k : ℕ). draw S (drop k (involved l))) z)),
         u .ensures .1,
+        u .kept .1 .1 .1 .1 .1 .0 ∙ fa .given .0,
       ),
       (refl, refl),
     )
@@ -119,100 +117,104 @@ explore-mul-count : (t : ℕ) → explore-lts.Need-mul-count (claims t) (explore
 explore-mul-count t c =
     let x = c .before .before .before .before .before .before .before .before .before .before .before .before .args in
     let o = c .before .before .next-open in
+    let sa = c .before .before .before .before .before .next-open-arg3 in
     let p = c .before .before .before .before .before .before .before .before .before .before .before .before .pre in
     let i2 = c .if2 in
-    omega (arith, within (lineBy (x .line .now)) (x .counter) (x .sets .now) (x .state .now) (x .level) (o .result .level) (o .result .at) (gathered (listed (x .found .now)) (x .leak) (x .row .now)) (p .1 .3) (p .1 .4) (o .ensures) (i2 .left))
+    omega (arith, within (lineBy (x .line .now)) (x .counter) (x .sets .now) (x .state .now) (x .level) (o .result .level) (o .result .at) (gathered (listed (x .found .now)) (x .leak) (x .row .now)) (sa .given .0) (p .1 .1) (o .ensures) (i2 .left))
 
-explore-slice-read-count : (t : ℕ) → explore-lts.Need-slice-read-count (claims t) (explore-at t) explore.Post explore-Inv-loop explore-μ-loop
-explore-slice-read-count t c =
-    let x = c .before .before .before .before .before .before .before .before .before .before .before .before .before .args in
-    let o = c .before .before .before .next-open in
-    let p = c .before .before .before .before .before .before .before .before .before .before .before .before .before .pre in
-    let i2 = c .before .if2 in
-    omega (arith, within (lineBy (x .line .now)) (x .counter) (x .sets .now) (x .state .now) (x .level) (o .result .level) (o .result .at) (gathered (listed (x .found .now)) (x .leak) (x .row .now)) (p .1 .3) (p .1 .4) (o .ensures) (i2 .left), p .1 .3)
+explore-element-copy-out-count : (t : ℕ) → explore-lts.Need-element-copy-out-count (claims t) (explore-at t) explore.Post explore-Inv-loop explore-μ-loop
+explore-element-copy-out-count t c =
+    let x = c .before .before .before .before .before .before .before .before .before .before .before .before .args in
+    let o = c .before .before .next-open in
+    let sa = c .before .before .before .before .before .next-open-arg3 in
+    let p = c .before .before .before .before .before .before .before .before .before .before .before .before .pre in
+    let i2 = c .if2 in
+    omega (arith, within (lineBy (x .line .now)) (x .counter) (x .sets .now) (x .state .now) (x .level) (o .result .level) (o .result .at) (gathered (listed (x .found .now)) (x .leak) (x .row .now)) (sa .given .0) (p .1 .1) (o .ensures) (i2 .left))
 
 explore-mul-first : (t : ℕ) → explore-lts.Need-mul-first (claims t) (explore-at t) explore.Post explore-Inv-loop explore-μ-loop
 explore-mul-first t c =
     let x = c .before .before .before .before .before .before .before .before .before .before .before .before .before .args in
     let o = c .before .before .before .next-open in
+    let sa = c .before .before .before .before .before .before .next-open-arg3 in
     let p = c .before .before .before .before .before .before .before .before .before .before .before .before .before .pre in
     let i2 = c .before .if2 in
-    omega (arith, within (lineBy (x .line .now)) (x .counter) (x .sets .now) (x .state .now) (x .level) (o .result .level) (o .result .at) (gathered (listed (x .found .now)) (x .leak) (x .row .now)) (p .1 .3) (p .1 .4) (o .ensures) (i2 .left))
+    omega (arith, within (lineBy (x .line .now)) (x .counter) (x .sets .now) (x .state .now) (x .level) (o .result .level) (o .result .at) (gathered (listed (x .found .now)) (x .leak) (x .row .now)) (sa .given .0) (p .1 .1) (o .ensures) (i2 .left))
 
 explore-add-first : (t : ℕ) → explore-lts.Need-add-first (claims t) (explore-at t) explore.Post explore-Inv-loop explore-μ-loop
 explore-add-first t c =
     let x = c .before .before .before .before .before .before .before .before .before .before .before .before .before .args in
     let o = c .before .before .before .next-open in
+    let sa = c .before .before .before .before .before .before .next-open-arg3 in
     let p = c .before .before .before .before .before .before .before .before .before .before .before .before .before .pre in
     let i2 = c .before .if2 in
-    omega (arith, within (lineBy (x .line .now)) (x .counter) (x .sets .now) (x .state .now) (x .level) (o .result .level) (o .result .at) (gathered (listed (x .found .now)) (x .leak) (x .row .now)) (p .1 .3) (p .1 .4) (o .ensures) (i2 .left))
+    omega (arith, within (lineBy (x .line .now)) (x .counter) (x .sets .now) (x .state .now) (x .level) (o .result .level) (o .result .at) (gathered (listed (x .found .now)) (x .leak) (x .row .now)) (sa .given .0) (p .1 .1) (o .ensures) (i2 .left))
 
-explore-slice-read-first : (t : ℕ) → explore-lts.Need-slice-read-first (claims t) (explore-at t) explore.Post explore-Inv-loop explore-μ-loop
-explore-slice-read-first t c =
-    let x = c .before .before .before .before .before .before .before .before .before .before .before .before .before .before .args in
-    let o = c .before .before .before .before .next-open in
-    let p = c .before .before .before .before .before .before .before .before .before .before .before .before .before .before .pre in
-    let i2 = c .before .before .if2 in
-    omega (arith, within (lineBy (x .line .now)) (x .counter) (x .sets .now) (x .state .now) (x .level) (o .result .level) (o .result .at) (gathered (listed (x .found .now)) (x .leak) (x .row .now)) (p .1 .3) (p .1 .4) (o .ensures) (i2 .left), p .1 .3)
+explore-element-copy-out-first : (t : ℕ) → explore-lts.Need-element-copy-out-first (claims t) (explore-at t) explore.Post explore-Inv-loop explore-μ-loop
+explore-element-copy-out-first t c =
+    let x = c .before .before .before .before .before .before .before .before .before .before .before .before .before .args in
+    let o = c .before .before .before .next-open in
+    let sa = c .before .before .before .before .before .before .next-open-arg3 in
+    let p = c .before .before .before .before .before .before .before .before .before .before .before .before .before .pre in
+    let i2 = c .before .if2 in
+    omega (arith, within (lineBy (x .line .now)) (x .counter) (x .sets .now) (x .state .now) (x .level) (o .result .level) (o .result .at) (gathered (listed (x .found .now)) (x .leak) (x .row .now)) (sa .given .0) (p .1 .1) (o .ensures) (i2 .left))
 
 explore-size-of-requires : (t : ℕ) → explore-lts.Need-size-of-requires (claims t) (explore-at t) explore.Post explore-Inv-loop explore-μ-loop
-explore-size-of-requires t c κs =
-    let p = c .before .before .before .before .before .before .before .before .before .before .before .before .before .before .before .pre in
-    p .1 .3
+explore-size-of-requires t c κs = search needs
 
 explore-loop-holds : (t : ℕ) → explore-lts.Need-loop-holds (claims t) (explore-at t) explore.Post explore-Inv-loop explore-μ-loop
 explore-loop-holds t c =
     let z0 = c .size-of in
-    let p = c .before .before .before .before .before .before .before .before .before .before .before .before .before .before .before .before .pre in
-    let x = c .before .before .before .before .before .before .before .before .before .before .before .before .before .before .before .before .args in
-    let o = c .before .before .before .before .before .before .next-open in
-    let i2 = c .before .before .before .before .if2 in
-    (z0 .ensures, p .1 .1, p .1 .5, p .1 .6, turned-none (lineBy (x .line .now)) (x .counter) (x .sets .now) (x .state .now) (x .level) (o .result .level) (o .result .at) (gathered (listed (x .found .now)) (x .leak) (x .row .now)) (p .1 .3) (p .1 .4) (o .ensures) (i2 .left))
+    let p = c .before .before .before .before .before .before .before .before .before .before .before .before .before .before .before .before .before .pre in
+    let fa = c .before .before .before .before .before .before .before .before .before .before .before .before .before .before .before .is-overfull-arg2 in
+    let x = c .before .before .before .before .before .before .before .before .before .before .before .before .before .before .before .before .before .args in
+    let o = c .before .before .before .before .before .before .before .next-open in
+    let sa = c .before .before .before .before .before .before .before .before .before .before .next-open-arg3 in
+    let i2 = c .before .before .before .before .before .if2 in
+    (z0 .ensures, p .1 .2, fa .given .0, turned-none (lineBy (x .line .now)) (x .counter) (x .sets .now) (x .state .now) (x .level) (o .result .level) (o .result .at) (gathered (listed (x .found .now)) (x .leak) (x .row .now)) (sa .given .0) (p .1 .1) (o .ensures) (i2 .left))
 
 explore-value-beside-requires : (t : ℕ) → explore-lts.Need-value-beside-requires (claims t) (explore-at t) explore.Post explore-Inv-loop explore-μ-loop
 explore-value-beside-requires t c κs =
     let x = c .before .before .before .before .before .before .before .before .before .before .before .before .before .before .before .before .before .before .before .before .before .args in
     let o = c .before .before .before .before .before .before .before .before .before .before .before .next-open in
+    let sa = c .before .before .before .before .before .before .before .before .before .before .before .before .before .before .next-open-arg3 in
     let p = c .before .before .before .before .before .before .before .before .before .before .before .before .before .before .before .before .before .before .before .before .before .pre in
     let i2 = c .before .before .before .before .before .before .before .before .before .if2 in
-    let m = c .before .before .before .before .loop in
-    let w = c .before .before .before .loop-test in
-    (same-size (lineBy (x .line .now)) (x .counter) (x .sets .now) (x .state .now) (x .level) (o .result .level) (o .result .at) (gathered (listed (x .found .now)) (x .leak) (x .row .now)) (p .1 .3) (p .1 .4) (o .ensures) (i2 .left) (m .sets) (m .state) (gathered (listed (m .found)) (m .seen) (m .row)) (m .j) (m .inv .4), within (lineBy (x .line .now)) (x .counter) (x .sets .now) (x .state .now) (x .level) (o .result .level) (o .result .at) (gathered (listed (x .found .now)) (x .leak) (x .row .now)) (p .1 .3) (p .1 .4) (o .ensures) (i2 .left), few-values (lineBy (x .line .now)) (x .counter) (x .sets .now) (x .state .now) (x .level) (o .result .level) (o .result .at) (gathered (listed (x .found .now)) (x .leak) (x .row .now)) (p .1 .3) (p .1 .4) (o .ensures) (i2 .left) (m .sets) (m .state) (gathered (listed (m .found)) (m .seen) (m .row)) (m .j) (m .inv .4) (omega (arith, m .inv .0, w .taken)))
+    let m = c .before .before .before .loop in
+    let w = c .before .before .loop-test in
+    (same-size (lineBy (x .line .now)) (x .counter) (x .sets .now) (x .state .now) (x .level) (o .result .level) (o .result .at) (gathered (listed (x .found .now)) (x .leak) (x .row .now)) (sa .given .0) (p .1 .1) (o .ensures) (i2 .left) (m .sets) (m .state) (gathered (listed (m .found)) (m .seen) (m .row)) (m .j) (m .inv .3), within (lineBy (x .line .now)) (x .counter) (x .sets .now) (x .state .now) (x .level) (o .result .level) (o .result .at) (gathered (listed (x .found .now)) (x .leak) (x .row .now)) (sa .given .0) (p .1 .1) (o .ensures) (i2 .left), few-values (lineBy (x .line .now)) (x .counter) (x .sets .now) (x .state .now) (x .level) (o .result .level) (o .result .at) (gathered (listed (x .found .now)) (x .leak) (x .row .now)) (sa .given .0) (p .1 .1) (o .ensures) (i2 .left) (m .sets) (m .state) (gathered (listed (m .found)) (m .seen) (m .row)) (m .j) (m .inv .3) (omega (arith, m .inv .0, w .taken)))
 
 explore-narrow-requires : (t : ℕ) → explore-lts.Need-narrow-requires (claims t) (explore-at t) explore.Post explore-Inv-loop explore-μ-loop
 explore-narrow-requires t c κs =
-    let x = c .before .before .before .before .before .before .before .before .before .before .before .before .before .before .before .before .before .before .before .before .before .before .args in
-    let o = c .before .before .before .before .before .before .before .before .before .before .before .before .next-open in
-    let p = c .before .before .before .before .before .before .before .before .before .before .before .before .before .before .before .before .before .before .before .before .before .before .pre in
-    let i2 = c .before .before .before .before .before .before .before .before .before .before .if2 in
-    let m = c .before .before .before .before .before .loop in
-    (same-size (lineBy (x .line .now)) (x .counter) (x .sets .now) (x .state .now) (x .level) (o .result .level) (o .result .at) (gathered (listed (x .found .now)) (x .leak) (x .row .now)) (p .1 .3) (p .1 .4) (o .ensures) (i2 .left) (m .sets) (m .state) (gathered (listed (m .found)) (m .seen) (m .row)) (m .j) (m .inv .4), same-state-size (lineBy (x .line .now)) (x .counter) (x .sets .now) (x .state .now) (x .level) (o .result .level) (o .result .at) (gathered (listed (x .found .now)) (x .leak) (x .row .now)) (p .1 .3) (p .1 .4) (o .ensures) (i2 .left) (m .sets) (m .state) (gathered (listed (m .found)) (m .seen) (m .row)) (m .j) (m .inv .4), within (lineBy (x .line .now)) (x .counter) (x .sets .now) (x .state .now) (x .level) (o .result .level) (o .result .at) (gathered (listed (x .found .now)) (x .leak) (x .row .now)) (p .1 .3) (p .1 .4) (o .ensures) (i2 .left))
+    let x = c .before .before .before .before .before .before .before .before .before .before .before .before .before .before .before .before .before .before .before .before .before .before .before .before .args in
+    let o = c .before .before .before .before .before .before .before .before .before .before .before .before .before .before .next-open in
+    let sa = c .before .before .before .before .before .before .before .before .before .before .before .before .before .before .before .before .before .next-open-arg3 in
+    let p = c .before .before .before .before .before .before .before .before .before .before .before .before .before .before .before .before .before .before .before .before .before .before .before .before .pre in
+    let i2 = c .before .before .before .before .before .before .before .before .before .before .before .before .if2 in
+    let m = c .before .before .before .before .before .before .loop in
+    (same-size (lineBy (x .line .now)) (x .counter) (x .sets .now) (x .state .now) (x .level) (o .result .level) (o .result .at) (gathered (listed (x .found .now)) (x .leak) (x .row .now)) (sa .given .0) (p .1 .1) (o .ensures) (i2 .left) (m .sets) (m .state) (gathered (listed (m .found)) (m .seen) (m .row)) (m .j) (m .inv .3), same-state-size (lineBy (x .line .now)) (x .counter) (x .sets .now) (x .state .now) (x .level) (o .result .level) (o .result .at) (gathered (listed (x .found .now)) (x .leak) (x .row .now)) (sa .given .0) (p .1 .1) (o .ensures) (i2 .left) (m .sets) (m .state) (gathered (listed (m .found)) (m .seen) (m .row)) (m .j) (m .inv .3), within (lineBy (x .line .now)) (x .counter) (x .sets .now) (x .state .now) (x .level) (o .result .level) (o .result .at) (gathered (listed (x .found .now)) (x .leak) (x .row .now)) (sa .given .0) (p .1 .1) (o .ensures) (i2 .left))
 
 explore-add-explore : (t : ℕ) → explore-lts.Need-add-explore (claims t) (explore-at t) explore.Post explore-Inv-loop explore-μ-loop
 explore-add-explore t c =
-    let i2 = c .before .before .before .before .before .before .before .before .before .before .before .before .before .before .before .before .before .if2 in
+    let i2 = c .before .before .before .before .before .before .before .before .before .before .before .before .before .before .before .if2 in
     omega (arith, i2 .left)
 
 explore-explore-requires : (t : ℕ) → explore-lts.Need-explore-requires (claims t) (explore-at t) explore.Post explore-Inv-loop explore-μ-loop
 explore-explore-requires t c κs =
-    let v0 = c .before .before .before .before .before .before .before .before .before .before .value-beside in
-    let p = c .before .before .before .before .before .before .before .before .before .before .before .before .before .before .before .before .before .before .before .before .before .before .before .before .before .before .before .before .before .before .before .before .pre in
-    let o = c .before .before .before .before .before .before .before .before .before .before .before .before .before .before .before .before .before .before .before .before .before .before .next-open in
-    let i2 = c .before .before .before .before .before .before .before .before .before .before .before .before .before .before .before .before .before .before .before .before .if2 in
-    let m = c .before .before .before .before .before .before .before .before .before .before .before .before .before .before .before .loop in
-    let a = c .before .before .before .before .before .before .before .before .before .narrow in
-    let x = c .before .before .before .before .before .before .before .before .before .before .before .before .before .before .before .before .before .before .before .before .before .before .before .before .before .before .before .before .before .before .before .before .args in
+    let v0 = c .before .before .before .before .before .before .before .before .value-beside in
+    let p = c .before .before .before .before .before .before .before .before .before .before .before .before .before .before .before .before .before .before .before .before .before .before .before .before .before .before .before .before .before .before .pre in
+    let o = c .before .before .before .before .before .before .before .before .before .before .before .before .before .before .before .before .before .before .before .before .next-open in
+    let i2 = c .before .before .before .before .before .before .before .before .before .before .before .before .before .before .before .before .before .before .if2 in
+    let a = c .before .before .before .before .before .narrow in
+    let x = c .before .before .before .before .before .before .before .before .before .before .before .before .before .before .before .before .before .before .before .before .before .before .before .before .before .before .before .before .before .before .args in
+    let sa = c .before .before .before .before .before .before .before .before .before .before .before .before .before .before .before .before .before .before .before .before .before .before .before .next-open-arg3 in
+    let m = c .before .before .before .before .before .before .before .before .before .before .before .before .loop in
     let v = v0 .result in (
       omega (arith, p .0, o .ensures .least, i2 .left),
       (
-        p .1 .0,
-        m .inv .1,
         omega (arith, i2 .left),
-        a .kept .0 ∙ same-size (lineBy (x .line .now)) (x .counter) (x .sets .now) (x .state .now) (x .level) (o .result .level) (o .result .at) (gathered (listed (x .found .now)) (x .leak) (x .row .now)) (p .1 .3) (p .1 .4) (o .ensures) (i2 .left) (m .sets) (m .state) (gathered (listed (m .found)) (m .seen) (m .row)) (m .j) (m .inv .4),
-        a .ensures .1 ∙ narrowed-state (lineBy (x .line .now)) (x .counter) (x .sets .now) (x .state .now) (x .level) (o .result .level) (o .result .at) (gathered (listed (x .found .now)) (x .leak) (x .row .now)) (p .1 .3) (p .1 .4) (o .ensures) (i2 .left) (m .sets) (m .state) (gathered (listed (m .found)) (m .seen) (m .row)) (m .j) (m .inv .4) v ∙ sym (ap (λ (b : List ℕ). heads (listsOf b)) (a .ensures .0)),
-        m .inv .2,
-        m .inv .3,
-        rw (a .ensures .0) (narrowed-settled (lineBy (x .line .now)) (x .counter) (x .sets .now) (x .state .now) (x .level) (o .result .level) (o .result .at) (gathered (listed (x .found .now)) (x .leak) (x .row .now)) (p .1 .3) (p .1 .4) (o .ensures) (i2 .left) (m .sets) (m .state) (gathered (listed (m .found)) (m .seen) (m .row)) (m .j) (m .inv .4) v),
+        a .ensures .1 ∙ narrowed-state (lineBy (x .line .now)) (x .counter) (x .sets .now) (x .state .now) (x .level) (o .result .level) (o .result .at) (gathered (listed (x .found .now)) (x .leak) (x .row .now)) (sa .given .0) (p .1 .1) (o .ensures) (i2 .left) (m .sets) (m .state) (gathered (listed (m .found)) (m .seen) (m .row)) (m .j) (m .inv .3) v ∙ sym (ap (λ (b : List ℕ). heads (listsOf b)) (a .ensures .0)),
+        m .inv .1,
+        rw (a .ensures .0) (narrowed-settled (lineBy (x .line .now)) (x .counter) (x .sets .now) (x .state .now) (x .level) (o .result .level) (o .result .at) (gathered (listed (x .found .now)) (x .leak) (x .row .now)) (sa .given .0) (p .1 .1) (o .ensures) (i2 .left) (m .sets) (m .state) (gathered (listed (m .found)) (m .seen) (m .row)) (m .j) (m .inv .3) v),
       ),
     )
 
@@ -224,89 +226,60 @@ explore-loop-less t c = search needs
 
 explore-loop-again : (t : ℕ) → explore-lts.Need-loop-again (claims t) (explore-at t) explore.Post explore-Inv-loop explore-μ-loop
 explore-loop-again t c =
-    let v0 = c .before .before .before .before .before .before .before .before .before .before .before .before .before .before .before .before .before .before .before .value-beside in
-    let m = c .before .before .before .before .before .before .before .before .before .before .before .before .before .before .before .before .before .before .before .before .before .before .before .before .loop in
-    let x = c .before .before .before .before .before .before .before .before .before .before .before .before .before .before .before .before .before .before .before .before .before .before .before .before .before .before .before .before .before .before .before .before .before .before .before .before .before .before .before .before .before .args in
-    let o = c .before .before .before .before .before .before .before .before .before .before .before .before .before .before .before .before .before .before .before .before .before .before .before .before .before .before .before .before .before .before .before .next-open in
-    let w = c .before .before .before .before .before .before .before .before .before .before .before .before .before .before .before .before .before .before .before .before .before .before .before .loop-test in
-    let e = c .before .before .before .before .before .before .before .before .explore in
-    let p = c .before .before .before .before .before .before .before .before .before .before .before .before .before .before .before .before .before .before .before .before .before .before .before .before .before .before .before .before .before .before .before .before .before .before .before .before .before .before .before .before .before .pre in
-    let i2 = c .before .before .before .before .before .before .before .before .before .before .before .before .before .before .before .before .before .before .before .before .before .before .before .before .before .before .before .before .before .if2 in
-    let a = c .before .before .before .before .before .before .before .before .before .before .before .before .before .before .before .before .before .before .narrow in
+    let v0 = c .before .before .before .before .before .before .before .before .before .value-beside in
+    let m = c .before .before .before .before .before .before .before .before .before .before .before .before .before .loop in
+    let x = c .before .before .before .before .before .before .before .before .before .before .before .before .before .before .before .before .before .before .before .before .before .before .before .before .before .before .before .before .before .before .before .args in
+    let o = c .before .before .before .before .before .before .before .before .before .before .before .before .before .before .before .before .before .before .before .before .before .next-open in
+    let w = c .before .before .before .before .before .before .before .before .before .before .before .before .loop-test in
+    let e = c .explore in
+    let sa = c .before .before .before .before .before .before .before .before .before .before .before .before .before .before .before .before .before .before .before .before .before .before .before .before .next-open-arg3 in
+    let p = c .before .before .before .before .before .before .before .before .before .before .before .before .before .before .before .before .before .before .before .before .before .before .before .before .before .before .before .before .before .before .before .pre in
+    let i2 = c .before .before .before .before .before .before .before .before .before .before .before .before .before .before .before .before .before .before .before .if2 in
+    let a = c .before .before .before .before .before .before .narrow in
     let v = v0 .result in
     let h : m .j < length (values (listsOf (x .sets .now)) (o .result .at)) = omega (arith, m .inv .0, w .taken) in (
       m .inv .0,
-      e .kept .1 .1 .0 ∙ m .inv .1,
-      e .kept .1 .1 .1 .1 .1 .1 .0 ∙ m .inv .2,
       e .ensures .0 .1,
-      turned-next (lineBy (x .line .now)) (x .counter) (x .sets .now) (x .state .now) (x .level) (o .result .level) (o .result .at) (gathered (listed (x .found .now)) (x .leak) (x .row .now)) (p .1 .3) (p .1 .4) (o .ensures) (i2 .left) (m .sets) (m .state) (gathered (listed (m .found)) (m .seen) (m .row)) (m .j) (m .inv .4) v _ _ _ h (read-value (lineBy (x .line .now)) (x .counter) (x .sets .now) (x .state .now) (x .level) (o .result .level) (o .result .at) (gathered (listed (x .found .now)) (x .leak) (x .row .now)) (p .1 .3) (p .1 .4) (o .ensures) (i2 .left) (m .sets) (m .state) (gathered (listed (m .found)) (m .seen) (m .row)) (m .j) (m .inv .4) h (v0 .ensures)) (e .ensures .1 .0 ∙ a .ensures .0) (e .ensures .1 .1 ∙ a .ensures .1)
+      e .ensures .0 .2,
+      turned-next (lineBy (x .line .now)) (x .counter) (x .sets .now) (x .state .now) (x .level) (o .result .level) (o .result .at) (gathered (listed (x .found .now)) (x .leak) (x .row .now)) (sa .given .0) (p .1 .1) (o .ensures) (i2 .left) (m .sets) (m .state) (gathered (listed (m .found)) (m .seen) (m .row)) (m .j) (m .inv .3) v _ _ _ h (read-value (lineBy (x .line .now)) (x .counter) (x .sets .now) (x .state .now) (x .level) (o .result .level) (o .result .at) (gathered (listed (x .found .now)) (x .leak) (x .row .now)) (sa .given .0) (p .1 .1) (o .ensures) (i2 .left) (m .sets) (m .state) (gathered (listed (m .found)) (m .seen) (m .row)) (m .j) (m .inv .3) h (v0 .ensures)) (e .ensures .1 .0 ∙ a .ensures .0) (e .ensures .1 .1 ∙ a .ensures .1)
           (e .ensures .0 .0 ∙ ap (λ (b : List ℕ). visitedAll (lineBy (x .line .now)) (x .counter) (gathered (listed (m .found)) (m .seen) (m .row)) (draw (listsOf b) (drop (o .result .level + 1) (involved (lineBy (x .line .now)))))) (a .ensures .0)),
     )
 
 explore-narrow-requires-2 : (t : ℕ) → explore-lts.Need-narrow-requires-2 (claims t) (explore-at t) explore.Post explore-Inv-loop explore-μ-loop
 explore-narrow-requires-2 t c κs =
-    let x = c .before .before .before .before .before .before .before .before .before .before .before .before .before .before .before .before .before .before .before .before .args in
-    let o = c .before .before .before .before .before .before .before .before .before .before .next-open in
-    let p = c .before .before .before .before .before .before .before .before .before .before .before .before .before .before .before .before .before .before .before .before .pre in
-    let i2 = c .before .before .before .before .before .before .before .before .if2 in
+    let x = c .before .before .before .before .before .before .before .before .before .before .before .before .before .before .before .before .before .before .before .before .before .args in
+    let o = c .before .before .before .before .before .before .before .before .before .before .before .next-open in
+    let sa = c .before .before .before .before .before .before .before .before .before .before .before .before .before .before .next-open-arg3 in
+    let p = c .before .before .before .before .before .before .before .before .before .before .before .before .before .before .before .before .before .before .before .before .before .pre in
+    let i2 = c .before .before .before .before .before .before .before .before .before .if2 in
     let m = c .before .before .before .loop in
-    (same-size (lineBy (x .line .now)) (x .counter) (x .sets .now) (x .state .now) (x .level) (o .result .level) (o .result .at) (gathered (listed (x .found .now)) (x .leak) (x .row .now)) (p .1 .3) (p .1 .4) (o .ensures) (i2 .left) (m .sets) (m .state) (gathered (listed (m .found)) (m .seen) (m .row)) (m .j) (m .inv .4), same-state-size (lineBy (x .line .now)) (x .counter) (x .sets .now) (x .state .now) (x .level) (o .result .level) (o .result .at) (gathered (listed (x .found .now)) (x .leak) (x .row .now)) (p .1 .3) (p .1 .4) (o .ensures) (i2 .left) (m .sets) (m .state) (gathered (listed (m .found)) (m .seen) (m .row)) (m .j) (m .inv .4), within (lineBy (x .line .now)) (x .counter) (x .sets .now) (x .state .now) (x .level) (o .result .level) (o .result .at) (gathered (listed (x .found .now)) (x .leak) (x .row .now)) (p .1 .3) (p .1 .4) (o .ensures) (i2 .left))
-
-explore-same-length-5 : (t : ℕ) → explore-lts.Need-same-length-5 (claims t) (explore-at t) explore.Post explore-Inv-loop explore-μ-loop
-explore-same-length-5 t c = search needs
-
-explore-same-length-6 : (t : ℕ) → explore-lts.Need-same-length-6 (claims t) (explore-at t) explore.Post explore-Inv-loop explore-μ-loop
-explore-same-length-6 t c =
-    let a = c .before .before .before .before .narrow2 in
-    let x = c .before .before .before .before .before .before .before .before .before .before .before .before .before .before .before .before .before .before .before .before .before .before .before .before .before .args in
-    let o = c .before .before .before .before .before .before .before .before .before .before .before .before .before .before .before .next-open in
-    let p = c .before .before .before .before .before .before .before .before .before .before .before .before .before .before .before .before .before .before .before .before .before .before .before .before .before .pre in
-    let i2 = c .before .before .before .before .before .before .before .before .before .before .before .before .before .if2 in
-    let m = c .before .before .before .before .before .before .before .before .loop in
-    a .kept .0 ∙ same-size (lineBy (x .line .now)) (x .counter) (x .sets .now) (x .state .now) (x .level) (o .result .level) (o .result .at) (gathered (listed (x .found .now)) (x .leak) (x .row .now)) (p .1 .3) (p .1 .4) (o .ensures) (i2 .left) (m .sets) (m .state) (gathered (listed (m .found)) (m .seen) (m .row)) (m .j) (m .inv .4) ∙ sym (p .1 .3)
-
-explore-same-length-7 : (t : ℕ) → explore-lts.Need-same-length-7 (claims t) (explore-at t) explore.Post explore-Inv-loop explore-μ-loop
-explore-same-length-7 t c =
-    let a = c .before .before .before .before .narrow2 in
-    let x = c .before .before .before .before .before .before .before .before .before .before .before .before .before .before .before .before .before .before .before .before .before .before .before .before .before .args in
-    let o = c .before .before .before .before .before .before .before .before .before .before .before .before .before .before .before .next-open in
-    let p = c .before .before .before .before .before .before .before .before .before .before .before .before .before .before .before .before .before .before .before .before .before .before .before .before .before .pre in
-    let i2 = c .before .before .before .before .before .before .before .before .before .before .before .before .before .if2 in
-    let m = c .before .before .before .before .before .before .before .before .loop in
-    a .kept .1 .0 ∙ same-state-size (lineBy (x .line .now)) (x .counter) (x .sets .now) (x .state .now) (x .level) (o .result .level) (o .result .at) (gathered (listed (x .found .now)) (x .leak) (x .row .now)) (p .1 .3) (p .1 .4) (o .ensures) (i2 .left) (m .sets) (m .state) (gathered (listed (m .found)) (m .seen) (m .row)) (m .j) (m .inv .4) ∙ sym (same-state-size (lineBy (x .line .now)) (x .counter) (x .sets .now) (x .state .now) (x .level) (o .result .level) (o .result .at) (gathered (listed (x .found .now)) (x .leak) (x .row .now)) (p .1 .3) (p .1 .4) (o .ensures) (i2 .left) (x .sets .now) (x .state .now) (gathered (listed (x .found .now)) (x .leak) (x .row .now)) 0 (turned-none (lineBy (x .line .now)) (x .counter) (x .sets .now) (x .state .now) (x .level) (o .result .level) (o .result .at) (gathered (listed (x .found .now)) (x .leak) (x .row .now)) (p .1 .3) (p .1 .4) (o .ensures) (i2 .left)))
-
-explore-same-length-8 : (t : ℕ) → explore-lts.Need-same-length-8 (claims t) (explore-at t) explore.Post explore-Inv-loop explore-μ-loop
-explore-same-length-8 t c = search needs
+    (same-size (lineBy (x .line .now)) (x .counter) (x .sets .now) (x .state .now) (x .level) (o .result .level) (o .result .at) (gathered (listed (x .found .now)) (x .leak) (x .row .now)) (sa .given .0) (p .1 .1) (o .ensures) (i2 .left) (m .sets) (m .state) (gathered (listed (m .found)) (m .seen) (m .row)) (m .j) (m .inv .3), same-state-size (lineBy (x .line .now)) (x .counter) (x .sets .now) (x .state .now) (x .level) (o .result .level) (o .result .at) (gathered (listed (x .found .now)) (x .leak) (x .row .now)) (sa .given .0) (p .1 .1) (o .ensures) (i2 .left) (m .sets) (m .state) (gathered (listed (m .found)) (m .seen) (m .row)) (m .j) (m .inv .3), within (lineBy (x .line .now)) (x .counter) (x .sets .now) (x .state .now) (x .level) (o .result .level) (o .result .at) (gathered (listed (x .found .now)) (x .leak) (x .row .now)) (sa .given .0) (p .1 .1) (o .ensures) (i2 .left))
 
 explore-returns-3 : (t : ℕ) → explore-lts.Need-returns-3 (claims t) (explore-at t) explore.Post explore-Inv-loop explore-μ-loop
 explore-returns-3 t c =
-    let m = c .before .before .before .before .before .before .before .before .loop in
-    let x = c .before .before .before .before .before .before .before .before .before .before .before .before .before .before .before .before .before .before .before .before .before .before .before .before .before .args in
-    let o = c .before .before .before .before .before .before .before .before .before .before .before .before .before .before .before .next-open in
-    let p = c .before .before .before .before .before .before .before .before .before .before .before .before .before .before .before .before .before .before .before .before .before .before .before .before .before .pre in
-    let i2 = c .before .before .before .before .before .before .before .before .before .before .before .before .before .if2 in
-    let w = c .before .before .before .before .before .before .before .loop-test in
-    let a = c .before .before .before .before .narrow2 in
-    let I = m .inv .4 in
-    ((turned-all (lineBy (x .line .now)) (x .counter) (x .sets .now) (x .state .now) (x .level) (o .result .level) (o .result .at) (gathered (listed (x .found .now)) (x .leak) (x .row .now)) (p .1 .3) (p .1 .4) (o .ensures) (i2 .left) (m .sets) (m .state) (gathered (listed (m .found)) (m .seen) (m .row)) (m .j) (m .inv .4) (omega (arith, m .inv .0, w .left)), m .inv .3), (a .ensures .0 ∙ I .back, a .ensures .1 ∙ I .back-state))
+    let m = c .before .before .before .before .loop in
+    let x = c .before .before .before .before .before .before .before .before .before .before .before .before .before .before .before .before .before .before .before .before .before .before .args in
+    let o = c .before .before .before .before .before .before .before .before .before .before .before .before .next-open in
+    let sa = c .before .before .before .before .before .before .before .before .before .before .before .before .before .before .before .next-open-arg3 in
+    let p = c .before .before .before .before .before .before .before .before .before .before .before .before .before .before .before .before .before .before .before .before .before .before .pre in
+    let i2 = c .before .before .before .before .before .before .before .before .before .before .if2 in
+    let w = c .before .before .before .loop-test in
+    let a = c .narrow2 in
+    let I = m .inv .3 in
+    ((turned-all (lineBy (x .line .now)) (x .counter) (x .sets .now) (x .state .now) (x .level) (o .result .level) (o .result .at) (gathered (listed (x .found .now)) (x .leak) (x .row .now)) (sa .given .0) (p .1 .1) (o .ensures) (i2 .left) (m .sets) (m .state) (gathered (listed (m .found)) (m .seen) (m .row)) (m .j) (m .inv .3) (omega (arith, m .inv .0, w .left)), m .inv .1, m .inv .2), (a .ensures .0 ∙ I .back, a .ensures .1 ∙ I .back-state))
 
 pub +explore-spec : {M : Type 1} → statement M
 +explore-spec = close μ-explore λ t. explore-lts.spec (claims t) (explore-at t) explore.Post explore-Inv-loop explore-μ-loop
-    (explore-slice-read-if1 t)
-    (explore-cast-if1 t)
+    (explore-is-overfull-requires t)
     (explore-returns t)
     (explore-next-open-requires t)
     (explore-visit-requires t)
-    (explore-same-length t)
-    (explore-same-length-2 t)
-    (explore-same-length-3 t)
-    (explore-same-length-4 t)
     (explore-returns-2 t)
     (explore-mul-count t)
-    (explore-slice-read-count t)
+    (explore-element-copy-out-count t)
     (explore-mul-first t)
     (explore-add-first t)
-    (explore-slice-read-first t)
+    (explore-element-copy-out-first t)
     (explore-size-of-requires t)
     (explore-loop-holds t)
     (explore-value-beside-requires t)
@@ -317,8 +290,4 @@ pub +explore-spec : {M : Type 1} → statement M
     (explore-loop-less t)
     (explore-loop-again t)
     (explore-narrow-requires-2 t)
-    (explore-same-length-5 t)
-    (explore-same-length-6 t)
-    (explore-same-length-7 t)
-    (explore-same-length-8 t)
     (explore-returns-3 t)

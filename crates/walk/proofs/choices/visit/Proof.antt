@@ -2,10 +2,10 @@
 use mathlib.Core.Path.{_≡_, refl, sym, ap, ap₂, _∙_}
 use mathlib.Core.Bool.{Bool, true, false, not, cond, _||_}
 use mathlib.Core.List.{List}
-use Prim.Native.Nat.{ℕ, suc, _≤_, _<_}
+use Prim.Native.Nat.{ℕ, suc, _≤_}
 use native.Mathlib.Omega.{arith}
-use borrow.Author.Tests.{lt-ltb, le-ltb}
-use lib.Dec.{eqb}
+use borrow.Author.Tests.{le-ltb}
+use lib.Dec.{eqb, ltb}
 use lib.ListN.{length, getD, drop}
 use Rattle.model.specs.declared.Line.{Line}
 use Rattle.model.specs.Limits.{stateSize, rowWidth}
@@ -29,9 +29,9 @@ unfolding row result
 effect-row n k s t e es ee = rw es at ee
 
 module _ (n : List ℕ) (k : ℕ) (b : List ℕ) (s : State) (f f′ r r′ : List ℕ) (leak : Bool) (e : Effect) (es : s ≡ heads (listsOf b)) (Z : Settled (listsOf b) (lineBy n) argumentPlaces)
-    (lf : length f ≡ suc setWidth) (hf : getD f 0 0 ≤ maxValues) (lf′ : length f′ ≡ suc setWidth) (lr′ : length r′ ≡ rowWidth)
+    (lf : length f ≡ suc setWidth) (hf : getD f 0 0 ≤ maxValues) (lr′ : length r′ ≡ rowWidth)
     (ee : e ≡ effectOf (lineOf (getD n 0 0) (getD n 1 0) (getD n 2 0) (getD n 3 0) (getD n 4 0) 0) k s)
-    (ek : r′ ≡ cond (eqb (getD f 0 0) 0) (e .row) r) (en : (listed f′ ≡ insert (listed f) (e .result)) × (getD f′ 0 0 ≤ setWidth)) where
+    (ek : r′ ≡ cond (eqb (getD f 0 0) 0) (e .row) r) (en : listed f′ ≡ insert (listed f) (e .result)) where
   abbrev S : Sets
   S = listsOf b
 
@@ -47,9 +47,6 @@ module _ (n : List ℕ) (k : ℕ) (b : List ℕ) (s : State) (f f′ r r′ : Li
   size : length (listed f) ≡ getD f 0 0
   size = listed-few f setWidth lf (omega arith)
 
-  size′ : length (insert (listed f) (e .result)) ≡ getD f′ 0 0
-  size′ = ap length (sym (en .0)) ∙ listed-few f′ setWidth lf′ (en .1)
-
   first : r′ ≡ firstRow before (row l k (heads S))
   first = ek ∙ ap₂ (λ (m : ℕ) (q : List ℕ). cond (eqb m 0) q r) (sym size) (ap (λ (x : Effect). x .row) whole)
 
@@ -57,19 +54,19 @@ module _ (n : List ℕ) (k : ℕ) (b : List ℕ) (s : State) (f f′ r r′ : Li
   all = left-visited S l k Z (lists-length stateSize b) before r′ first (omega arith)
       ∙ ap (λ (x : Effect). noted before (x .result) (alike r′ (x .row) (x .result) (values S (x .place))) r′) (sym whole)
 
-  many : maxValues < getD f′ 0 0 → gathered (listed f′) leak r′ ≡ visitedAll l k before (draw S (drop argumentPlaces (involved l)))
+  many : ltb maxValues (length (listed f′)) ≡ true → gathered (listed f′) leak r′ ≡ visitedAll l k before (draw S (drop argumentPlaces (involved l)))
   unfolding noted
-  many h = rw (all, le-ltb maxValues (length (listed f)) (omega (arith, size)), lt-ltb maxValues (length (insert (listed f) (e .result))) (omega (arith, size′)), en .0) refl
+  many h = rw (all, le-ltb maxValues (length (listed f)) (omega (arith, size)), ← en, h) refl
 
-  few : getD f′ 0 0 ≤ maxValues → (a : Bool) → a ≡ leak || not (alike r′ (e .row) (e .result) (values S (e .place)))
+  few : ltb maxValues (length (listed f′)) ≡ false → (a : Bool) → a ≡ leak || not (alike r′ (e .row) (e .result) (values S (e .place)))
       → gathered (listed f′) a r′ ≡ visitedAll l k before (draw S (drop argumentPlaces (involved l)))
   unfolding noted
-  few h a ea = rw (all, le-ltb maxValues (length (listed f)) (omega (arith, size)), le-ltb maxValues (length (insert (listed f) (e .result))) (omega (arith, size′)), en .0, ea) refl
+  few h a ea = rw (all, le-ltb maxValues (length (listed f)) (omega (arith, size)), ← en, h, ea) refl
 
-  leaked : getD f′ 0 0 ≤ maxValues → leak ≡ true → gathered (listed f′) true r′ ≡ visitedAll l k before (draw S (drop argumentPlaces (involved l)))
+  leaked : ltb maxValues (length (listed f′)) ≡ false → leak ≡ true → gathered (listed f′) true r′ ≡ visitedAll l k before (draw S (drop argumentPlaces (involved l)))
   leaked h t = few h true (rw t)
 
-  compared : getD f′ 0 0 ≤ maxValues → leak ≡ false → {a : Bool} → a ≡ alike r′ (e .row) (e .result) (values S (e .place))
+  compared : ltb maxValues (length (listed f′)) ≡ false → leak ≡ false → {a : Bool} → a ≡ alike r′ (e .row) (e .result) (values S (e .place))
       → gathered (listed f′) (not a) r′ ≡ visitedAll l k before (draw S (drop argumentPlaces (involved l)))
   compared h t {a} ea = few h (not a) (rw t (ap not ea))
 
@@ -103,11 +100,8 @@ keep-row-requires c κs = search needs
 note-requires : tie.Need-note-requires
 note-requires c κs = search needs
 
-slice-read-if1 : tie.Need-slice-read-if1
-slice-read-if1 c = search needs
-
-cast-if1 : tie.Need-cast-if1
-cast-if1 c = search needs
+is-overfull-requires : tie.Need-is-overfull-requires
+is-overfull-requires c κs = search needs
 
 same-length : tie.Need-same-length
 same-length c = search needs
@@ -116,7 +110,15 @@ same-length-2 : tie.Need-same-length-2
 same-length-2 c = search needs
 
 returns : tie.Need-returns
-returns c = (many (c .before .before .before .before .before .before .before .before .before .before .before .before .before .before .before .before .before .before .before .before .before .before .before .before .args .line .now) (c .before .before .before .before .before .before .before .before .before .before .before .before .before .before .before .before .before .before .before .before .before .before .before .before .args .counter) (c .before .before .before .before .before .before .before .before .before .before .before .before .before .before .before .before .before .before .before .before .before .before .before .before .args .sets .now) (c .before .before .before .before .before .before .before .before .before .before .before .before .before .before .before .before .before .before .before .before .before .before .before .before .args .state .now) (c .before .before .before .before .before .before .before .before .before .before .before .before .before .before .before .before .before .before .before .before .before .before .before .before .args .found .now) (c .before .before .before .before .note .last .0) (c .before .before .before .before .before .before .before .before .before .before .before .before .before .before .before .before .before .before .before .before .before .before .before .before .args .row .now) (c .before .before .before .before .before .before .before .before .keep-row .last .0) (c .before .before .before .before .before .before .before .before .before .before .before .before .before .before .before .before .before .before .before .before .before .before .before .before .args .leak) (c .before .before .before .before .before .before .before .before .before .before .before .before .before .effect-of .result) (c .before .before .before .before .before .before .before .before .before .before .before .before .before .before .before .before .before .before .before .before .before .before .before .before .pre .3) (c .before .before .before .before .before .before .before .before .before .before .before .before .before .before .before .before .before .before .before .before .before .before .before .before .pre .6) (c .before .before .before .before .before .before .before .before .before .before .before .before .before .before .before .before .before .before .before .before .before .before .before .before .pre .4) (c .before .before .before .before .before .before .before .before .before .before .before .before .before .before .before .before .before .before .before .before .before .before .before .before .pre .5) (c .before .before .before .before .note .kept .0 ∙ c .before .before .before .before .before .before .before .before .before .before .before .before .before .before .before .before .before .before .before .before .before .before .before .before .pre .4) (c .before .before .before .before .before .before .before .before .keep-row .kept .0 ∙ c .before .before .before .before .before .before .before .before .before .before .before .before .before .before .before .before .before .before .before .before .before .before .before .before .pre .1) (c .before .before .before .before .before .before .before .before .before .before .before .before .before .effect-of .ensures) (c .before .before .before .before .before .before .before .before .keep-row .ensures) (c .before .before .before .before .note .ensures) (c .if1 .taken), c .before .before .before .before .note .ensures .1)
+returns c =
+    let x = c .before .before .before .before .before .before .before .before .before .before .before .before .before .before .before .before .before .before .before .before .before .before .before .before .before .args in
+    let t = c .before .before .before .before .before .note in
+    let q = c .before .before .before .before .before .before .before .before .before .keep-row in
+    let e = c .before .before .before .before .before .before .before .before .before .before .before .before .before .before .effect-of in
+    let p = c .before .before .before .before .before .before .before .before .before .before .before .before .before .before .before .before .before .before .before .before .before .before .before .before .before .pre in
+    let o = c .before .is-overfull in
+    let i1 = c .if1 in
+    (many (x .line .now) (x .counter) (x .sets .now) (x .state .now) (x .found .now) (t .last .0) (x .row .now) (q .last .0) (x .leak) (e .result) (p .3) (p .6) (p .4) (p .5) (q .kept .0 ∙ p .1) (e .ensures) (q .ensures) (t .ensures .0) (sym (o .ensures) ∙ i1 .taken), t .ensures .1)
 
 same-length-3 : tie.Need-same-length-3
 same-length-3 c = search needs
@@ -125,7 +127,16 @@ same-length-4 : tie.Need-same-length-4
 same-length-4 c = search needs
 
 returns-2 : tie.Need-returns-2
-returns-2 c = (leaked (c .before .before .before .before .before .before .before .before .before .before .before .before .before .before .before .before .before .before .before .before .before .before .before .before .before .args .line .now) (c .before .before .before .before .before .before .before .before .before .before .before .before .before .before .before .before .before .before .before .before .before .before .before .before .before .args .counter) (c .before .before .before .before .before .before .before .before .before .before .before .before .before .before .before .before .before .before .before .before .before .before .before .before .before .args .sets .now) (c .before .before .before .before .before .before .before .before .before .before .before .before .before .before .before .before .before .before .before .before .before .before .before .before .before .args .state .now) (c .before .before .before .before .before .before .before .before .before .before .before .before .before .before .before .before .before .before .before .before .before .before .before .before .before .args .found .now) (c .before .before .before .before .before .note .last .0) (c .before .before .before .before .before .before .before .before .before .before .before .before .before .before .before .before .before .before .before .before .before .before .before .before .before .args .row .now) (c .before .before .before .before .before .before .before .before .before .keep-row .last .0) (c .before .before .before .before .before .before .before .before .before .before .before .before .before .before .before .before .before .before .before .before .before .before .before .before .before .args .leak) (c .before .before .before .before .before .before .before .before .before .before .before .before .before .before .effect-of .result) (c .before .before .before .before .before .before .before .before .before .before .before .before .before .before .before .before .before .before .before .before .before .before .before .before .before .pre .3) (c .before .before .before .before .before .before .before .before .before .before .before .before .before .before .before .before .before .before .before .before .before .before .before .before .before .pre .6) (c .before .before .before .before .before .before .before .before .before .before .before .before .before .before .before .before .before .before .before .before .before .before .before .before .before .pre .4) (c .before .before .before .before .before .before .before .before .before .before .before .before .before .before .before .before .before .before .before .before .before .before .before .before .before .pre .5) (c .before .before .before .before .before .note .kept .0 ∙ c .before .before .before .before .before .before .before .before .before .before .before .before .before .before .before .before .before .before .before .before .before .before .before .before .before .pre .4) (c .before .before .before .before .before .before .before .before .before .keep-row .kept .0 ∙ c .before .before .before .before .before .before .before .before .before .before .before .before .before .before .before .before .before .before .before .before .before .before .before .before .before .pre .1) (c .before .before .before .before .before .before .before .before .before .before .before .before .before .before .effect-of .ensures) (c .before .before .before .before .before .before .before .before .before .keep-row .ensures) (c .before .before .before .before .before .note .ensures) (c .before .if1 .left) (c .if2 .taken), c .before .before .before .before .before .note .ensures .1)
+returns-2 c =
+    let x = c .before .before .before .before .before .before .before .before .before .before .before .before .before .before .before .before .before .before .before .before .before .before .before .before .before .before .args in
+    let t = c .before .before .before .before .before .before .note in
+    let q = c .before .before .before .before .before .before .before .before .before .before .keep-row in
+    let e = c .before .before .before .before .before .before .before .before .before .before .before .before .before .before .before .effect-of in
+    let p = c .before .before .before .before .before .before .before .before .before .before .before .before .before .before .before .before .before .before .before .before .before .before .before .before .before .before .pre in
+    let o = c .before .before .is-overfull in
+    let i1 = c .before .if1 in
+    let i2 = c .if2 in
+    (leaked (x .line .now) (x .counter) (x .sets .now) (x .state .now) (x .found .now) (t .last .0) (x .row .now) (q .last .0) (x .leak) (e .result) (p .3) (p .6) (p .4) (p .5) (q .kept .0 ∙ p .1) (e .ensures) (q .ensures) (t .ensures .0) (sym (o .ensures) ∙ i1 .left) (i2 .taken), t .ensures .1)
 
 is-alike-requires : tie.Need-is-alike-requires
 is-alike-requires c κs = search needs
@@ -137,7 +148,17 @@ same-length-6 : tie.Need-same-length-6
 same-length-6 c = search needs
 
 returns-3 : tie.Need-returns-3
-returns-3 c = (compared (c .before .before .before .before .before .before .before .before .before .before .before .before .before .before .before .before .before .before .before .before .before .before .before .before .before .before .before .args .line .now) (c .before .before .before .before .before .before .before .before .before .before .before .before .before .before .before .before .before .before .before .before .before .before .before .before .before .before .before .args .counter) (c .before .before .before .before .before .before .before .before .before .before .before .before .before .before .before .before .before .before .before .before .before .before .before .before .before .before .before .args .sets .now) (c .before .before .before .before .before .before .before .before .before .before .before .before .before .before .before .before .before .before .before .before .before .before .before .before .before .before .before .args .state .now) (c .before .before .before .before .before .before .before .before .before .before .before .before .before .before .before .before .before .before .before .before .before .before .before .before .before .before .before .args .found .now) (c .before .before .before .before .before .before .before .note .last .0) (c .before .before .before .before .before .before .before .before .before .before .before .before .before .before .before .before .before .before .before .before .before .before .before .before .before .before .before .args .row .now) (c .before .before .before .before .before .before .before .before .before .before .before .keep-row .last .0) (c .before .before .before .before .before .before .before .before .before .before .before .before .before .before .before .before .before .before .before .before .before .before .before .before .before .before .before .args .leak) (c .before .before .before .before .before .before .before .before .before .before .before .before .before .before .before .before .effect-of .result) (c .before .before .before .before .before .before .before .before .before .before .before .before .before .before .before .before .before .before .before .before .before .before .before .before .before .before .before .pre .3) (c .before .before .before .before .before .before .before .before .before .before .before .before .before .before .before .before .before .before .before .before .before .before .before .before .before .before .before .pre .6) (c .before .before .before .before .before .before .before .before .before .before .before .before .before .before .before .before .before .before .before .before .before .before .before .before .before .before .before .pre .4) (c .before .before .before .before .before .before .before .before .before .before .before .before .before .before .before .before .before .before .before .before .before .before .before .before .before .before .before .pre .5) (c .before .before .before .before .before .before .before .note .kept .0 ∙ c .before .before .before .before .before .before .before .before .before .before .before .before .before .before .before .before .before .before .before .before .before .before .before .before .before .before .before .pre .4) (c .before .before .before .before .before .before .before .before .before .before .before .keep-row .kept .0 ∙ c .before .before .before .before .before .before .before .before .before .before .before .before .before .before .before .before .before .before .before .before .before .before .before .before .before .before .before .pre .1) (c .before .before .before .before .before .before .before .before .before .before .before .before .before .before .before .before .effect-of .ensures) (c .before .before .before .before .before .before .before .before .before .before .before .keep-row .ensures) (c .before .before .before .before .before .before .before .note .ensures) (c .before .before .before .if1 .left) (c .before .before .if2 .left) (c .is-alike .ensures), c .before .before .before .before .before .before .before .note .ensures .1)
+returns-3 c =
+    let x = c .before .before .before .before .before .before .before .before .before .before .before .before .before .before .before .before .before .before .before .before .before .before .before .before .before .before .before .before .args in
+    let t = c .before .before .before .before .before .before .before .before .note in
+    let q = c .before .before .before .before .before .before .before .before .before .before .before .before .keep-row in
+    let e = c .before .before .before .before .before .before .before .before .before .before .before .before .before .before .before .before .before .effect-of in
+    let p = c .before .before .before .before .before .before .before .before .before .before .before .before .before .before .before .before .before .before .before .before .before .before .before .before .before .before .before .before .pre in
+    let o = c .before .before .before .before .is-overfull in
+    let i1 = c .before .before .before .if1 in
+    let i2 = c .before .before .if2 in
+    let a = c .is-alike in
+    (compared (x .line .now) (x .counter) (x .sets .now) (x .state .now) (x .found .now) (t .last .0) (x .row .now) (q .last .0) (x .leak) (e .result) (p .3) (p .6) (p .4) (p .5) (q .kept .0 ∙ p .1) (e .ensures) (q .ensures) (t .ensures .0) (sym (o .ensures) ∙ i1 .left) (i2 .left) (a .ensures), t .ensures .1)
 
 pub visit-spec : {M : Type 1} → statement M
 visit-spec =
@@ -153,8 +174,7 @@ visit-spec =
     slice-read-keep-row
     keep-row-requires
     note-requires
-    slice-read-if1
-    cast-if1
+    is-overfull-requires
     same-length
     same-length-2
     returns
