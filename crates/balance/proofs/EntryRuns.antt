@@ -4,9 +4,10 @@ use mathlib.Core.Path.{_≡_, refl, sym, ap, ap₂, _∙_, subst, subst₂}
 use mathlib.Core.Bool.{Bool, true, false, cond}
 use mathlib.Core.List.{List, [], _∷_, flatMap}
 use Prim.Native.Nat.{ℕ, _*_, _≤_}
+use native.Mathlib.Omega.{arith}
 use borrow.Author.Tests.{eq-eqb}
 use lib.Dec.{ltb}
-use lib.ListN.{length, take, drop}
+use lib.ListN.{length, take, drop, length-append}
 use lib.Seq.{take-at}
 use Rattle.model.specs.declared.Line.{Line}
 use Rattle.model.specs.Layouts.{neighbours, near}
@@ -43,6 +44,7 @@ checked-source p vs e = go (check-answer p) refl
 
 pub record Listed (p e : List ℕ) (n : ℕ) : Type 0 where
   pub is : listing e n ≡ flatMap codes (expand neighbours (lines p))
+  pub fits : lineWidth * n ≤ length e
   source : programCheck p ≡ counted (lineCount p)
   pub accepted : Accepted (lines p)
   checked : programCheck (listing e n) ≡ counted (length (expand neighbours (lines p)))
@@ -57,6 +59,7 @@ listed p e n E =
     let is : listing e n ≡ c = ap (take (lineWidth * n)) (W .listing) ∙ take-at c (drop (length c) (E .lent)) (lineWidth * n) long in
     record {
       is = is;
+      fits = omega (arith, ap length (W .listing), long, length-append c (drop (length c) (E .lent)));
       source = checked-source p (W .values) (W .checked);
       accepted = A;
       checked = ap programCheck is ∙ expansion-check neighbours near (lines p) A;

@@ -1,21 +1,28 @@
 -- Request 01 from the claims over the definitions to the calls: a report that is clear was refused by no check, so each run leaves what the
 -- definition's run leaves. Assumes nothing.
-use mathlib.Core.Path.{_≡_, sym, ap, ap₂, _∙_, subst}
+use mathlib.Core.Path.{_≡_, refl, sym, ap, ap₂, _∙_, subst}
 use mathlib.Core.List.{List, [], _∷_, flatMap}
-use Prim.Native.Nat.{ℕ}
+use Prim.Native.Nat.{ℕ, _*_, _≤_}
 use lib.ListN.{length}
 use Rattle.model.specs.Layouts.{neighbours, near}
-use Rattle.model.specs.Answers.{Report, done, refused, counted, Outcome, outcome, atFront}
+use Rattle.model.specs.Answers.{Report, done, report, counted, Outcome, outcome, atFront}
+use Rattle.model.specs.Limits.{lineWidth}
+use Rattle.model.specs.Expansion.{expandOutcome}
+use Rattle.model.specs.declared.Answer.{Answer}
+use Rattle.model.specs.declared.Answer.the-variants.{Count, Halted, Spent, Refused}
 use Rattle.model.specs.Places.{State}
 use Rattle.model.specs.Stored.{lines, programCheck}
 use Rattle.model.specs.Run.{run, answer, runOutcome}
-use Rattle.model.proofs.OutcomeLaws.{run-outcome}
-use Rattle.model.proofs.CheckAnswers.{CountOrRefusal, counts, refuses, program-answers}
+use Rattle.model.proofs.OutcomeLaws.{never-done, run-outcome}
+use Rattle.model.proofs.CheckAnswers.{CountOrRefusal, counts, refuses, program-answers, expansion-answers, NoCount, Refusal, no-count-refuses}
+use Rattle.walk.specs.declared.Verdict.{Verdict}
+use Rattle.walk.specs.Gathering.{refusalOf}
 use Rattle.walk.specs.Walk.{told, verdictReport}
 use Rattle.walk.specs.Claims.{Clear, Images}
 use Rattle.walk.proofs.Reports.{sound}
 use Rattle.walk.proofs.Expansions.{no-false-alarm}
-use Rattle.balance.specs.VerdictClaims.{DrawnTwins, AsJudged, SoundCalls, ClearExpansion, WrittenListing}
+use Rattle.balance.specs.VerdictClaims.{DrawnTwins, AsJudged, SoundCalls, ClearExpansion, verdictOn}
+use Rattle.balance.specs.EntryClaims.{Expanded, listing}
 use Rattle.balance.proofs.EntryRuns.{listed, ending, answer-is, leaves-is}
 
 -- a clear report is of a program that no check refused
@@ -56,12 +63,43 @@ clear-expansion p e n E sets b I =
     let N = listed p e n E in
     subst (λ (q : List ℕ). Clear (verdictReport q sets b)) (sym (N .is)) (no-false-alarm neighbours near (lines p) (N .accepted) sets b I)
 
--- ---- the claims as `judged_runs` and `judged_listing` promise them: of calls whose promises are given
+-- ---- the claims as `judged_runs` and `judged_expansion` promise them: of calls whose promises are given
 
 pub judged-claim : (q sets : List ℕ) (b : ℕ) (s t : State) (x y : List ℕ) (r : Report) (one other : Outcome) → r ≡ verdictReport q sets b
     → one ≡ runOutcome q 0 b s x → other ≡ runOutcome q 0 b t y → DrawnTwins sets b s t x y → Clear r → AsJudged r x y one other
 judged-claim q sets b s t x y r one other e f g D h = rw (e, f, g) (sound-calls q sets b s t x y D (rw e at h))
 
-pub listing-claim : (q sets : List ℕ) (b : ℕ) (r : Report) → r ≡ verdictReport q sets b → WrittenListing q → Images neighbours sets → Clear r
-listing-claim q sets b r e W I =
-    rw (e, W .isListing) (clear-expansion (W .program) (W .written) (W .count) (W .expanded) sets b I)
+module _ (p out new : List ℕ) (a : Answer) (e : outcome (report a) (new ∷ []) ≡ expandOutcome p out) where
+  answers : CountOrRefusal (report a)
+  answers = rw (ap (λ (o : Outcome). o .answer) e) (expansion-answers neighbours p out)
+
+  -- `expand` refused
+  module _ (h : NoCount a) where
+    refusal : Refusal (report a)
+    refusal = no-count-refuses a h answers refl
+
+    pub refusal-on : (sets : List ℕ) (b : ℕ) (v : Verdict) → v ≡ refusalOf a → told v ≡ verdictOn (report a) new sets b
+    refusal-on sets b v w = ap told w ∙ go a h refusal
+      where
+        go : (z : Answer) → NoCount z → Refusal (report z) → told (refusalOf z) ≡ verdictOn (report z) new sets b
+        go (Count n) k f = absurd (never-done (sym (f .is)))
+        go (Halted i s) k f = absurd (never-done (sym (f .is)))
+        go (Spent i s) k f = absurd (never-done (sym (f .is)))
+        go (Refused k l) k′ f = refl
+
+    pub not-counted : (n : ℕ) → report a ≡ counted n → ⊥
+    not-counted n w = never-done (sym (refusal .is) ∙ w)
+
+  -- `expand` wrote n lines
+  module _ (n : ℕ) (c : a ≡ Count n) where
+    pub counted-call : outcome (counted n) (new ∷ []) ≡ expandOutcome p out
+    counted-call = ap (λ (z : Answer). outcome (report z) (new ∷ [])) (sym c) ∙ e
+
+    expanded : Expanded p new n
+    expanded = record { lent = out; call = sym counted-call }
+
+    pub listing-fits : lineWidth * n ≤ length new
+    listing-fits = listed p new n expanded .fits
+
+    pub clear-on : (sets : List ℕ) (b : ℕ) (r : Report) → r ≡ verdictReport (listing new n) sets b → Images neighbours sets → Clear r
+    clear-on sets b r w I = rw w (clear-expansion p new n expanded sets b I)

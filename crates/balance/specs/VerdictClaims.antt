@@ -3,10 +3,10 @@
 use mathlib.Core.Path.{_≡_}
 use mathlib.Core.List.{List}
 use Prim.Native.Nat.{ℕ, _*_, _≤_}
-use lib.ListN.{length}
+use lib.ListN.{length, getD}
 use Rattle.model.specs.Layouts.{neighbours}
 use Rattle.model.specs.Limits.{rowWidth}
-use Rattle.model.specs.Answers.{Report, Outcome}
+use Rattle.model.specs.Answers.{Report, done, refused, Outcome}
 use Rattle.model.specs.Places.{State}
 use Rattle.model.specs.Run.{runOutcome}
 use Rattle.walk.specs.Walk.{setsOf, verdictReport}
@@ -34,11 +34,8 @@ SoundCalls = (q sets : List ℕ) (b : ℕ) (s t : State) (x y : List ℕ) → Dr
 abbrev pub ClearExpansion : Type 0
 ClearExpansion = (p e : List ℕ) (n : ℕ) → Expanded p e n → (sets : List ℕ) (b : ℕ) → Images neighbours sets → Clear (verdictReport (listing e n) sets b)
 
--- ---- what a caller of `judged_listing` has in hand: a listing that `expand` wrote
+-- ---- what `judged_expansion` answers: the verdict on the lines that `expand` left at the front of e, or what `expand` refused
 
-pub record WrittenListing (q : List ℕ) : Type 0 where
-  pub program : List ℕ
-  pub written : List ℕ
-  pub count : ℕ
-  pub expanded : Expanded program written count
-  pub isListing : q ≡ listing written count
+abbrev pub verdictOn : Report → List ℕ → List ℕ → ℕ → Report
+verdictOn (done values) e sets b = verdictReport (listing e (getD values 0 0)) sets b
+verdictOn (refused number line) e sets b = refused number line

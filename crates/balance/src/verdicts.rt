@@ -2,13 +2,16 @@
 // and the functions here, which call these entry points, promise them.
 ghost use mathlib.Core.Path.{_≡_};
 ghost use mathlib.Core.List.{[], _∷_};
+ghost use Prim.Native.Nat.{ℕ};
 ghost use Rattle.model.specs.Layouts.{neighbours};
-ghost use Rattle.model.specs.Answers.{report, outcome};
+ghost use Rattle.model.specs.Answers.{report, counted, outcome};
+ghost use Rattle.model.specs.Expansion.{expandOutcome};
 ghost use Rattle.model.specs.Run.{runOutcome};
 ghost use Rattle.walk.specs.Walk.{told, verdictReport};
 ghost use Rattle.walk.specs.Claims.{Clear, Images};
-ghost use Rattle.balance.specs.VerdictClaims.{DrawnTwins, AsJudged, WrittenListing};
+ghost use Rattle.balance.specs.VerdictClaims.{DrawnTwins, AsJudged, verdictOn};
 use model::Answer;
+use model::LINE_WIDTH;
 use walk::Verdict;
 
 pub struct JudgedRuns {
@@ -43,11 +46,31 @@ pub fn judged_runs(
     }
 }
 
-// Judges a listing. On one that `expand` wrote, from sets that hold only images with one value in each public place, the verdict is balanced
-// or spent.
-pub fn judged_listing(listing: &[u16], sets: &[u8], budget: u16) -> Verdict
-    ensures { λ r. ⌜ told r ≡ verdictReport (now (listing .entry)) (now (sets .entry)) budget ⌝ }
-    ensures { λ r. ⌜ (WrittenListing (now (listing .entry)) → Images neighbours (now (sets .entry)) → Clear (told r)) ⌝ }
+pub struct JudgedExpansion {
+    pub expanded: Answer,
+    pub verdict: Verdict,
+}
+
+// Expands a program and judges what was written. Where `expand` refuses nothing, from sets that hold only images with one value in each
+// public place, the verdict is balanced or spent.
+pub fn judged_expansion(
+    program: &[u16],
+    out: &mut [u16],
+    sets: &[u8],
+    budget: u16,
+) -> JudgedExpansion
+    ensures { λ r. ⌜ outcome (report (r .expanded)) (now (out .exit) ∷ []) ≡ expandOutcome (now (program .entry)) (now (out .entry)) ⌝ }
+    ensures { λ r. ⌜ told (r .verdict) ≡ verdictOn (report (r .expanded)) (now (out .exit)) (now (sets .entry)) budget ⌝ }
+    ensures { λ r. ⌜ ((n : ℕ) → report (r .expanded) ≡ counted n → Images neighbours (now (sets .entry)) → Clear (told (r .verdict))) ⌝ }
 {
-    walk::judge(listing, sets, budget)
+    let expanded = expander::expand(program, out);
+    let Answer::Count(count) = expanded else {
+        return JudgedExpansion {
+            expanded,
+            verdict: walk::refusal_of(expanded),
+        };
+    };
+    let end = LINE_WIDTH * (count as usize);
+    let verdict = walk::judge(&out[..end], sets, budget);
+    JudgedExpansion { expanded, verdict }
 }

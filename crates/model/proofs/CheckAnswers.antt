@@ -13,12 +13,14 @@ use lib.ListN.{length}
 use Rattle.model.proofs.Answer.{the-type}
 use Rattle.model.specs.declared.Answer.{Answer}
 use Rattle.model.specs.declared.Answer.the-variants.{Count, Halted, Spent, Refused}
+use Rattle.model.specs.declared.Layout.{Layout}
 use Rattle.model.specs.declared.Line.{Line}
 use Rattle.model.specs.Limits.{maxAccepted}
 use Rattle.model.specs.Answers.{Report, done, refused, counted, report, Outcome, outcome, andThen, unlessRefused}
-use Rattle.model.specs.Stored.{Parsed, numbers, wrong, lines, programCheck}
+use Rattle.model.specs.Stored.{Parsed, numbers, wrong, lineCount, lines, programCheck}
 use Rattle.model.specs.Text.{newline, past, frontLine, Reading, thenReads, reading}
 use Rattle.model.specs.Marks.{markFault, firstBad, marksOf, markCheck, Accepted}
+use Rattle.model.specs.Expansion.{expand, expansionIn, written}
 use Rattle.model.proofs.StoredLaws.{CheckAnswer, accepts, refuses as turnsDown, check-answer}
 use Rattle.model.proofs.RoundTrip.{reading-zero, reading-suc}
 use Rattle.model.proofs.ExpansionLaws.{mark-accepted}
@@ -76,6 +78,22 @@ marks-answer p = either (ltb maxAccepted (length p)) _ _ (refuses 9 0 refl) (fir
 pub mark-answers : (p : List ℕ) → CountOrRefusal (markCheck p)
 unfolding markCheck
 mark-answers p = then-answers (programCheck p) (marksOf (lines p)) (marks-answer (lines p))
+
+-- ---- the expansion
+
+either-outcome : (t : Bool) (x y : Outcome) → CountOrRefusal (x .answer) → CountOrRefusal (y .answer) → CountOrRefusal (cond t x y .answer)
+either-outcome true x y a b = a
+either-outcome false x y a b = b
+
+unless-answers : (r : Report) (ss : List (List ℕ)) (x : Outcome) → CountOrRefusal (x .answer) → CountOrRefusal (unlessRefused r ss x .answer)
+unless-answers (done vs) ss x a = a
+unless-answers (refused k l) ss x a = refuses k l refl
+
+pub expansion-answers : (L : Layout) (p out : List ℕ) → CountOrRefusal (expansionIn L p out .answer)
+unfolding expansionIn written
+expansion-answers L p out =
+    unless-answers (markCheck p) (out ∷ []) _
+    (either-outcome (ltb (lineCount out) (length (expand L (lines p)))) _ _ (refuses 17 0 refl) (counts (length (expand L (lines p))) refl))
 
 -- a program that the mark check does not refuse
 pub accepted-source : (p vs : List ℕ) → markCheck p ≡ done vs → Accepted (lines p)

@@ -110,7 +110,7 @@ verdictOf (To n) k t v = v
 verdictOf Leaks k t v = Leak k t
 verdictOf (Refuses n) k t v = Refused n k
 
--- the refusal of a program's check; the check answers nothing else where it gives no count
+-- the refusal of a check; a check answers nothing else where it gives no count
 abbrev pub refusalOf : Answer → Verdict
 refusalOf (Count n) = Refused 0 0
 refusalOf (Halted k t) = Refused 0 0

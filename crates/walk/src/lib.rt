@@ -217,8 +217,8 @@ fn take_sets(sets: &[u8], own: &mut [u8], state: &mut [u8])
     }
 }
 
-// The refusal of a program's check. The check answers a count or a refusal, so 0 never occurs.
-fn refusal_of(checked: Answer) -> Verdict
+// The refusal of a check, as a verdict. A check answers a count or a refusal, so where it gives no count 0 never occurs.
+pub fn refusal_of(checked: Answer) -> Verdict
     ensures { λ r. ⌜ r ≡ refusalOf checked ⌝ }
 {
     match checked {
