@@ -3,7 +3,7 @@
 use mathlib.Core.Path.{_≡_, refl, sym, ap, ap₂, _∙_}
 use mathlib.Core.Bool.{Bool, true, false, not, _&&_}
 use mathlib.Core.List.{List, [], _∷_, _++_, flatMap}
-use Prim.Native.Nat.{ℕ, zero, suc, _+_, _*_, _≤_}
+use Prim.Native.Nat.{ℕ, zero, suc, _*_, _≤_}
 use native.Mathlib.Omega.{arith}
 use borrow.Author.Tests.{le-ltb}
 use lib.Dec.{T, ltb, leb, le→leb, lt→ltb, nltb→le}
@@ -28,6 +28,7 @@ use Rattle.model.specs.Expansion.{coded, move, load, shifts, scale, comb
 use Rattle.model.specs.Marks.{isAbove, holds16, markFault, marksOf, markCheck, Accepted}
 use Rattle.model.proofs.TestLaws.{and-both, both-and}
 use Rattle.model.proofs.Finite.{code-low, mask-low, table-low}
+use Rattle.model.proofs.MacroLines.{every-append, Every, macro-lines}
 use Rattle.model.proofs.Lengths.{macro-bounds}
 use Rattle.model.proofs.Parts.{joined-length}
 use Rattle.model.proofs.Acceptance.{clear, AllRight, marks-right, accepted-right}
@@ -218,52 +219,12 @@ module _ (L : Layout) (K : Known L) (p : List Line) (A : Accepted p) where
 
 -- no target is above n
 abbrev pub Within : ℕ → List Line → Type 0
-Within n [] = Unit {0}
-Within n (l ∷ ls) = T (not (isAbove n (l .target))) × Within n ls
-
-append-within : (n : ℕ) (a b : List Line) → Within n a → Within n b → Within n (a ++ b)
-append-within n [] b h g = g
-append-within n (l ∷ a) b h g = (h .0, append-within n a b (h .1) g)
+Within n = Every (λ l. T (not (isAbove n (l .target))))
 
 -- a macro has no targets
-isFree : Target → Bool
-isFree NoTarget = true
-isFree (ToLine t) = false
-
-allFree : List Line → Bool
-allFree [] = true
-allFree (l ∷ ls) = isFree (l .target) && allFree ls
-
-shifts-free : (c : Bool) (ls : List Line) → T (allFree ls) → T (allFree (shifts c ++ ls))
-unfolding shifts isFree allFree
-shifts-free true ls h = h
-shifts-free false ls h = h
-
-macro-free : (L : Layout) (o : Opcode) (d a b : Operand) → T (allFree (macro L o d a b))
-unfolding macro lookup negate copy load scale combine fetch flip writeBack isFree allFree
-macro-free L Nop d a b = tt
-macro-free L Jmp d a b = tt
-macro-free L Not d a b = tt
-macro-free L Mov d a b = tt
-macro-free L And d a b = shifts-free (L .spaced) _ tt
-macro-free L Orr d a b = shifts-free (L .spaced) _ tt
-macro-free L Xor d a b = shifts-free (L .spaced) _ tt
-macro-free L Lsl d a b = tt
-macro-free L Lsr d a b = tt
-macro-free L Add d a b = tt
-macro-free L Mul d a b = tt
-macro-free L Beq d a b = tt
-macro-free L Bne d a b = tt
-
-free-within : (n : ℕ) (t : Target) → T (isFree t) → T (not (isAbove n t))
-unfolding isFree isAbove
-free-within n NoTarget h = tt
-free-within n (ToLine t) h = absurd h
-
-all-within : (n : ℕ) (ls : List Line) → T (allFree ls) → Within n ls
-unfolding allFree
-all-within n [] h = tt
-all-within n (l ∷ ls) h = let w = and-both (isFree (l .target)) (allFree ls) h in (free-within n (l .target) (w .0), all-within n ls (w .1))
+macro-within : (n : ℕ) (L : Layout) (o : Opcode) (d a b : Operand) → Within n (macro L o d a b)
+unfolding isAbove
+macro-within n = macro-lines (record { moves = λ d a. tt; masks = λ k m. tt; shifts = tt; joins = tt; flips = λ m. tt })
 
 module _ (L : Layout) (starts : ℕ → ℕ) (n : ℕ) (few : (k : ℕ) → starts k ≤ n) where
   moved-within : (t : Target) → T (not (isAbove n (newTarget starts t)))
@@ -274,11 +235,11 @@ module _ (L : Layout) (starts : ℕ → ℕ) (n : ℕ) (few : (k : ℕ) → star
   joined-within : (p : List Line) → Within n (joined L starts p)
   unfolding joined partOf
   joined-within [] = tt
-  joined-within (l ∷ p) = append-within n (part L starts l) (joined L starts p) (go (l .mark)) (joined-within p)
+  joined-within (l ∷ p) = every-append _ (part L starts l) (joined L starts p) (go (l .mark)) (joined-within p)
     where
       go : (m : Mark) → Within n (partOf L m starts l)
       go Unmarked = (moved-within (l .target), tt)
-      go Marked = all-within n (macro L (l .opcode) (l .destination) (coded L (l .first)) (coded L (l .second))) (macro-free L (l .opcode) (l .destination) (coded L (l .first)) (coded L (l .second)))
+      go Marked = macro-within n L (l .opcode) (l .destination) (coded L (l .first)) (coded L (l .second))
 
 -- every target of an expansion is one of its lines or its end
 pub expansion-within : (L : Layout) (p : List Line) → Within (length (expand L p)) (expand L p)

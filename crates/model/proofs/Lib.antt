@@ -7,6 +7,7 @@ pub mod CutLaws
 pub mod ReadingLaws
 pub mod RoundTrip
 pub mod Runs
+pub mod MacroLines
 pub mod Straight
 pub mod Parts
 pub mod PlaceLaws

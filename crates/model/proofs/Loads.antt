@@ -12,12 +12,12 @@ use Rattle.model.specs.declared.Mark.the-variants.{Marked}
 use Rattle.model.specs.declared.Operand.{Operand}
 use Rattle.model.specs.declared.Operand.the-variants.{Empty, Literal, Register, Cell, PublicCell, SensitiveCell, TableCell}
 use Rattle.model.specs.Places.{State, address, value}
-use Rattle.model.specs.Step.{Row, argument, next, taken, weight}
+use Rattle.model.specs.Step.{Row, argument, weight}
 use Rattle.model.specs.Code.{code}
 use Rattle.model.specs.Images.{BitState, SamePublic}
 use Rattle.model.specs.Expansion.{coded, load}
 use Rattle.model.proofs.Runs.{ran}
-use Rattle.model.proofs.Straight.{exec, Straight}
+use Rattle.model.proofs.Straight.{exec}
 use Rattle.model.proofs.Operands.{SensitivePlace, SensitiveArgument, steady-argument, address-same, value-at}
 use Rattle.model.proofs.Finite.{code-weight, code-loaded}
 use Rattle.model.proofs.Pieces.{held, six, Scratch, got, kept, Source, load-exec, distance-zero}
@@ -77,7 +77,3 @@ load-same s t h a g k x = rw (address-same s t h a (steady-argument a g))
 pub load-bounds : (n : ℕ) (a : Operand) → (1 ≤ length (load n a)) × (length (load n a) ≤ 2)
 unfolding load
 load-bounds n a = omega arith
-
-pub load-straight : (n : ℕ) (a : Operand) → Straight (load n a)
-unfolding load next taken
-load-straight n a = ((λ k s. refl), ((λ k s. refl), tt))

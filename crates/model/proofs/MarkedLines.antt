@@ -1,7 +1,6 @@
 -- A marked line: its macro from an image leaves the image of what the line leaves, and its rows turn on public numbers alone: the line
 -- number, the Hamming weights of the addresses, and those of the scratch registers. The pieces are joined. Assumes nothing.
 use mathlib.Core.Path.{_≡_, refl, ap, ap₂, _∙_}
-use mathlib.Core.Bool.{Bool, true, false}
 use mathlib.Core.List.{List, [], _++_}
 use Prim.Native.Nat.{ℕ, suc, _+_, _%_, _<_}
 use native.Mathlib.Omega.{arith}
@@ -20,17 +19,18 @@ use Rattle.model.specs.Run.{Ran}
 use Rattle.model.specs.Lines.{fills}
 use Rattle.model.specs.Code.{code}
 use Rattle.model.specs.Images.{BitState, imageAt, SamePublic}
-use Rattle.model.specs.Expansion.{coded, load, shifts, scale, combine, fetch, flip, writeBack, lookup, negate, copy, macro}
+use Rattle.model.specs.Expansion.{coded, load, scale, combine, fetch, flip, writeBack, lookup, negate, copy, macro}
 use Rattle.model.specs.Marks.{hasMacro}
 use Rattle.model.proofs.Runs.{ran}
-use Rattle.model.proofs.Straight.{exec, exec-then, Straight, straight-append}
+use Rattle.model.proofs.MacroLines.{macro-lines}
+use Rattle.model.proofs.Straight.{exec, exec-then, Straight}
 use Rattle.model.proofs.PlaceLaws.{mapAt-getD, bits-set}
 use Rattle.model.proofs.Operands.{SensitivePlace, SensitiveArgument, steady-place, address-same}
 use Rattle.model.proofs.Acceptance.{mk, MarkedOperands}
 use Rattle.model.proofs.Finite.{tableAt, tableOp, tableWeight, low, scaled, joinedIndex, flipped, slot, code-weight, low-weight, flipped-weight, flipped-code, not-bit, index-weight, slot-low, slot-holds, table-bit}
 use Rattle.model.proofs.Pieces.{held, plus4, r1, r2, r3, scaleEnd, scaleShown, scale-shown, combineEnd, combineShown, combine-shown, flipEnd, flipShown, flip-shown, fetchEnd, fetchShown, fetch-shown, writeBackShown, write-back-shown}
 use Rattle.model.proofs.ImageLaws.{zeros, rails, tail-length, Found, found, image-page, sensitive-bit, write-sensitive}
-use Rattle.model.proofs.Loads.{loadEnd, loadShown, loaded, load-same, load-straight}
+use Rattle.model.proofs.Loads.{loadEnd, loadShown, loaded, load-same}
 
 -- the Hamming weights of r1, r2 and r3
 pub record Weights : Type 0 where
@@ -259,45 +259,10 @@ module _ (L : Layout) (s t : State) (h : SamePublic s t) where
 
 -- ---- a macro is straight
 
-shifts-straight : (c : Bool) → Straight (shifts c)
-unfolding shifts next taken
-shifts-straight true = ((λ k s. refl), tt)
-shifts-straight false = ((λ k s. refl), ((λ k s. refl), tt))
-
-piece-straight : (L : Layout) (t n : ℕ) (d : Operand) → (Straight (scale L) × Straight (combine L)) × (Straight (fetch t) × (Straight (flip L) × Straight (writeBack n d)))
-unfolding scale combine fetch flip writeBack next taken
-piece-straight L t n d = (
-  (((λ k s. refl), shifts-straight (L .spaced)), ((λ k s. refl), ((λ k s. refl), tt))),
-  (((λ k s. refl), ((λ k s. refl), tt)), (((λ k s. refl), tt), ((λ k s. refl), ((λ k s. refl), tt)))),
-)
-
-lookup-straight : (L : Layout) (t : ℕ) (d a b : Operand) → Straight (lookup L t d a b)
-unfolding lookup
-lookup-straight L t d a b =
-    let P = piece-straight L t 3 d in
-    straight-append (load 1 a) (scale L ++ (load 2 b ++ (combine L ++ (fetch t ++ writeBack 3 d)))) (load-straight 1 a)
-    (straight-append (scale L) (load 2 b ++ (combine L ++ (fetch t ++ writeBack 3 d))) (P .0 .0)
-    (straight-append (load 2 b) (combine L ++ (fetch t ++ writeBack 3 d)) (load-straight 2 b)
-    (straight-append (combine L) (fetch t ++ writeBack 3 d) (P .0 .1)
-    (straight-append (fetch t) (writeBack 3 d) (P .1 .0) (P .1 .1 .1)))))
-
 pub macro-straight : (L : Layout) (op : Opcode) (d a b : Operand) → Straight (macro L op d a b)
-unfolding macro negate copy
-macro-straight L Nop d a b = tt
-macro-straight L Jmp d a b = tt
-macro-straight L Not d a b =
-    let P = piece-straight L 0 1 d in
-    straight-append (load 1 a) (flip L ++ writeBack 1 d) (load-straight 1 a) (straight-append (flip L) (writeBack 1 d) (P .1 .1 .0) (P .1 .1 .1))
-macro-straight L Mov d a b = straight-append (load 3 a) (writeBack 3 d) (load-straight 3 a) (piece-straight L 0 3 d .1 .1 .1)
-macro-straight L And d a b = lookup-straight L (tableAt L 0) d a b
-macro-straight L Orr d a b = lookup-straight L (tableAt L 1) d a b
-macro-straight L Xor d a b = lookup-straight L (tableAt L 2) d a b
-macro-straight L Lsl d a b = tt
-macro-straight L Lsr d a b = tt
-macro-straight L Add d a b = tt
-macro-straight L Mul d a b = tt
-macro-straight L Beq d a b = tt
-macro-straight L Bne d a b = tt
+unfolding next taken
+macro-straight =
+    macro-lines (record { moves = λ d a k s. refl; masks = λ n m k s. refl; shifts = λ k s. refl; joins = λ k s. refl; flips = λ m k s. refl })
 
 -- a marked line goes on to the next
 pub next-marked : (op : Opcode) (d a b : Operand) (t : Target) → T (hasMacro op) → (k : ℕ) (s : State) → next (mk Marked op d a b t) k s ≡ suc k

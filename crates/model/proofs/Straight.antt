@@ -9,12 +9,12 @@ use Rattle.model.specs.declared.Line.{Line}
 use Rattle.model.specs.Places.{State}
 use Rattle.model.specs.Step.{Row, row, next, after}
 use Rattle.model.specs.Run.{Ran, push, run}
+use Rattle.model.proofs.MacroLines.{Every}
 use Rattle.model.proofs.Runs.{ran, joinRuns, step-run, run-zero}
 
 -- straight lines go on to the next line, whatever the state
 abbrev pub Straight : List Line → Type 0
-Straight [] = Unit {0}
-Straight (l ∷ ls) = ((k : ℕ) (s : State) → next l k s ≡ suc k) × Straight ls
+Straight = Every (λ l. (k : ℕ) (s : State) → next l k s ≡ suc k)
 
 unfoldable pub exec : List Line → ℕ → State → Ran
 exec [] k s = ran k s []
@@ -61,7 +61,3 @@ pub exec-rows : (ls : List Line) (k : ℕ) (s : State) → length (exec ls k s .
 unfolding exec
 exec-rows [] k s = refl
 exec-rows (l ∷ ls) k s = ap suc (exec-rows ls (suc k) (after l s))
-
-pub straight-append : (xs ys : List Line) → Straight xs → Straight ys → Straight (xs ++ ys)
-straight-append [] ys h g = g
-straight-append (l ∷ xs) ys h g = (h .0, straight-append xs ys (h .1) g)
