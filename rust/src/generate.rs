@@ -443,7 +443,7 @@ pub fn wrong_length(rng: &mut Random) -> usize {
 
 /// A program to judge, and the values that each place may have.
 pub fn walk(rng: &mut Random) -> (Vec<Line>, Vec<Vec<u8>>) {
-    match rng.below(6) {
+    match rng.below(7) {
         0 | 1 => {
             let mut lines = paper::expansion(&accepted_program(rng));
             patch(rng, &mut lines);
@@ -452,6 +452,7 @@ pub fn walk(rng: &mut Random) -> (Vec<Line>, Vec<Vec<u8>>) {
             (lines, image_sets(rng, &image))
         }
         2 => crowded_walk(rng),
+        3 => shifting_walk(rng),
         _ => (near_program(rng), free_sets(rng)),
     }
 }
@@ -487,6 +488,29 @@ fn crowded_walk(rng: &mut Random) -> (Vec<Line>, Vec<Vec<u8>>) {
     }
     for values in &mut sets[5..10] {
         *values = vec![rng.pick(&[0, 0, 1])];
+    }
+    (lines, sets)
+}
+
+/// Few shifts, mostly by 8 or more, some by counts that are alike modulo 8. In other programs such
+/// counts are rare in marked lines and behind `%` and `^`.
+fn shifting_walk(rng: &mut Random) -> (Vec<Line>, Vec<Vec<u8>>) {
+    let register = |rng: &mut Random| Register(few(rng, 4, 15));
+    let mut lines = vec![];
+    for _ in 0..rng.within(1, 4) {
+        let opcode = rng.pick(&[Opcode::Lsl, Opcode::Lsr]);
+        let marked = rng.one_in(2);
+        let shift = line(rng, marked, opcode, register, register, 0);
+        lines.push(Line { second: Some(any_argument(rng)), ..shift });
+    }
+    let mut sets = vec![];
+    for place in 0..STATE {
+        let (value, other) = (rng.byte(), rng.byte());
+        sets.push(match rng.below(4) {
+            0 if place >= 8 => vec![value, value % 8],
+            1 if place >= 8 => vec![value, other],
+            _ => vec![value],
+        });
     }
     (lines, sets)
 }

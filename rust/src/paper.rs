@@ -596,7 +596,8 @@ fn address_ones(operand: Option<Operand>, state: &[u8]) -> u16 {
     }
 }
 
-fn value(operand: Option<Operand>, state: &[u8]) -> u8 {
+/// The value of an argument, 0 where the line has none.
+pub fn value(operand: Option<Operand>, state: &[u8]) -> u8 {
     match operand {
         None => 0,
         Some(Literal(n)) => n,
@@ -629,8 +630,9 @@ pub fn step(line: &Line, counter: u16, state: &mut [u8]) -> (u16, [u16; ROW]) {
         And => a & b,
         Orr => a | b,
         Xor => a ^ b,
-        Lsl => a.checked_shl(b as u32).unwrap_or(0),
-        Lsr => a.checked_shr(b as u32).unwrap_or(0),
+        // Request 02: the count modulo 8, where document 01 has 0 from 8 up.
+        Lsl => a << (b % 8),
+        Lsr => a >> (b % 8),
         Add => a.wrapping_add(b),
         Mul => a.wrapping_mul(b),
         Nop | Jmp | Beq | Bne => 0,
@@ -644,7 +646,15 @@ pub fn step(line: &Line, counter: u16, state: &mut [u8]) -> (u16, [u16; ROW]) {
     (if taken { line.target.unwrap() } else { counter + 1 }, row)
 }
 
-fn run(lines: &[Line], start: u16, budget: u16, state: &mut [u8], trace: &mut [u16]) -> Answer {
+/// The run, with the step that it is made of.
+pub fn run(
+    lines: &[Line],
+    start: u16,
+    budget: u16,
+    state: &mut [u8],
+    trace: &mut [u16],
+    one_step: impl Fn(&Line, u16, &mut [u8]) -> (u16, [u16; ROW]),
+) -> Answer {
     if state.len() != STATE {
         return refused(18, 0);
     }
@@ -654,7 +664,7 @@ fn run(lines: &[Line], start: u16, budget: u16, state: &mut [u8], trace: &mut [u
     let mut counter = start;
     let mut steps = 0;
     while steps < budget && (counter as usize) < lines.len() {
-        let (next, row) = step(&lines[counter as usize], counter, state);
+        let (next, row) = one_step(&lines[counter as usize], counter, state);
         trace[ROW * steps as usize..][..ROW].copy_from_slice(&row);
         counter = next;
         steps += 1;
@@ -693,7 +703,8 @@ impl Dualrail for Paper {
         from_image(image, bits)
     }
     fn run(&self, program: &[u16], start: u16, budget: u16, state: &mut [u8], trace: &mut [u16]) -> Answer {
-        stored_program(program).map_or_else(|answer| answer, |lines| run(&lines, start, budget, state, trace))
+        stored_program(program)
+            .map_or_else(|answer| answer, |lines| run(&lines, start, budget, state, trace, step))
     }
     fn judge(&self, program: &[u16], sets: &[u8], budget: u16) -> Answer {
         stored_program(program).map_or_else(|answer| answer, |lines| walk::judge(&lines, sets, budget))

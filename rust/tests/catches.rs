@@ -2,9 +2,9 @@
 //! with one fault each.
 
 use dualrail::compare::compare;
-use dualrail::paper::walk::{self, reach, step_on_sets, Stop, Values, MOST_VALUES, SET};
+use dualrail::paper::walk::{self, reach, step_on_sets, step_on_sets_by, Stop, Values, MOST_VALUES, SET};
 use dualrail::paper::{
-    starts, step, stored_program, Line, Opcode, Operand, Paper, MOST_CHECKED, MOST_LINES, ROW, SIX,
+    self, starts, step, stored_program, Line, Opcode, Operand, Paper, MOST_CHECKED, MOST_LINES, ROW, SIX,
 };
 use dualrail::Answer::{self, *};
 use dualrail::Dualrail;
@@ -104,6 +104,37 @@ fn changed_run(
     lines.iter_mut().for_each(change);
     let program: Vec<u16> = lines.iter().flat_map(Line::stored).collect();
     Paper.run(&program, start, budget, state, trace)
+}
+
+/// Which shifts give 0, by line and count.
+type Zeros = fn(&Line, u8) -> bool;
+
+/// The right step, except that these shifts give 0.
+fn step_with_zeros(line: &Line, counter: u16, state: &mut [u8], zeros: Zeros) -> (u16, [u16; ROW]) {
+    let shift = matches!(line.opcode, Opcode::Lsl | Opcode::Lsr);
+    if !shift || !zeros(line, paper::value(line.second, state)) {
+        return step(line, counter, state);
+    }
+    // 0 shifted by any count is 0; the row still has the address of the argument.
+    let (_, right) = step(line, counter, &mut state.to_vec());
+    let zero = Line { first: Some(Operand::Literal(0)), ..*line };
+    let (next, mut row) = step(&zero, counter, state);
+    row[3] = right[3];
+    (next, row)
+}
+
+/// Runs with that step.
+fn run_with_zeros(
+    (program, start, budget): (&[u16], u16, u16),
+    state: &mut [u8],
+    trace: &mut [u16],
+    zeros: Zeros,
+) -> Answer {
+    let step = |line: &Line, counter, state: &mut [u8]| step_with_zeros(line, counter, state, zeros);
+    match stored_program(program) {
+        Ok(lines) => paper::run(&lines, start, budget, state, trace, step),
+        Err(answer) => answer,
+    }
 }
 
 /// Walks with another step.
@@ -532,14 +563,52 @@ fn variants() -> Vec<Variant> {
             ..RIGHT
         },
         Variant {
-            fault: "a shift count of 8 shifts by 0",
+            fault: "a shift count of 8 or more gives 0",
             run: |program, start, budget, state, trace| {
-                changed_run((program, start, budget), state, trace, |line| {
-                    let shift = matches!(line.opcode, Opcode::Lsl | Opcode::Lsr);
-                    if shift && line.second == Some(Operand::Literal(8)) {
-                        line.second = Some(Operand::Literal(0));
-                    }
+                run_with_zeros((program, start, budget), state, trace, |_, count| count >= 8)
+            },
+            ..RIGHT
+        },
+        Variant {
+            fault: "a shift count of 8 or more gives 0 to the left",
+            run: |program, start, budget, state, trace| {
+                run_with_zeros((program, start, budget), state, trace, |line, count| {
+                    count >= 8 && line.opcode == Opcode::Lsl
                 })
+            },
+            ..RIGHT
+        },
+        Variant {
+            fault: "a shift count of 8 or more gives 0 to the right",
+            run: |program, start, budget, state, trace| {
+                run_with_zeros((program, start, budget), state, trace, |line, count| {
+                    count >= 8 && line.opcode == Opcode::Lsr
+                })
+            },
+            ..RIGHT
+        },
+        Variant {
+            fault: "a shift count of 8 or more gives 0 in a marked line",
+            run: |program, start, budget, state, trace| {
+                run_with_zeros((program, start, budget), state, trace, |line, count| {
+                    count >= 8 && line.marked
+                })
+            },
+            ..RIGHT
+        },
+        Variant {
+            fault: "a shift count of 8 or more gives 0 if no literal",
+            run: |program, start, budget, state, trace| {
+                run_with_zeros((program, start, budget), state, trace, |line, count| {
+                    count >= 8 && !matches!(line.second, Some(Operand::Literal(_)))
+                })
+            },
+            ..RIGHT
+        },
+        Variant {
+            fault: "a shift count is taken modulo 16",
+            run: |program, start, budget, state, trace| {
+                run_with_zeros((program, start, budget), state, trace, |_, count| count % 16 >= 8)
             },
             ..RIGHT
         },
@@ -610,6 +679,17 @@ fn variants() -> Vec<Variant> {
             ..RIGHT
         },
         // Walks.
+        Variant {
+            fault: "a shift count of 8 or more gives 0 in a walk",
+            judge: |program, sets, budget| {
+                changed_walk((program, sets, budget), |line, counter, sets| {
+                    step_on_sets_by(line, counter, sets, |line, counter, state| {
+                        step_with_zeros(line, counter, state, |_, count| count >= 8)
+                    })
+                })
+            },
+            ..RIGHT
+        },
         Variant {
             fault: "a place that is both arguments takes two values",
             judge: |program, sets, budget| {

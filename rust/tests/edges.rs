@@ -89,7 +89,15 @@ fn machine() {
     each(|on| {
         assert_eq!(one_step(on, "u,add,r4,#200,#100,\n"), 44);
         assert_eq!(one_step(on, "u,lsl,r4,#128,#1,\n"), 0);
-        assert_eq!(one_step(on, "u,lsr,r4,#255,#8,\n"), 0);
+        // Request 02: the count modulo 8, in both directions and under both marks.
+        assert_eq!(one_step(on, "u,lsl,r4,#1,#8,\n"), 1);
+        assert_eq!(one_step(on, "u,lsr,r4,#128,#15,\n"), 1);
+        for (count, left, right) in [(7, 128, 1), (8, 255, 255), (255, 128, 1)] {
+            for mark in ["u", "s"] {
+                assert_eq!(one_step(on, &format!("{mark},lsl,r4,#255,#{count},\n")), left);
+                assert_eq!(one_step(on, &format!("{mark},lsr,r4,#255,#{count},\n")), right);
+            }
+        }
         assert_eq!(one_step(on, "u,not,r4,#0,,\n"), 255);
         assert_eq!(one_step(on, "s,not,r4,#2,,\n"), 3);
         let mut state = [0; STATE];
@@ -143,6 +151,9 @@ fn walk() {
         assert_eq!(verdict(on, "u,mov,r4,^r1+0,,\n", cells), balanced(1));
         assert_eq!(verdict(on, "u,mov,r1,^r1+0,,\n", cells), balanced(1));
         assert_eq!(verdict(on, "u,mov,r4,^r1+1,,\n", cells), Leak { line: 0, steps: 0 });
+        // Request 02: counts alike modulo 8 give equal rows, and others from 8 up need not.
+        assert_eq!(verdict(on, "u,lsl,r4,#3,r5,\n", &[(5, &[0, 8])]), balanced(1));
+        assert_eq!(verdict(on, "s,lsr,r4,#3,r5,\n", &[(5, &[8, 9])]), Leak { line: 0, steps: 0 });
         // 21, also where both values of a base reach one cell, or a place is compared with itself.
         assert_eq!(verdict(on, "u,mov,!r5+0,#0,,\n", &[(5, &[0, 128])]), refused(21, 0));
         assert_eq!(verdict(on, "u,nop,,,,\nu,beq,,r5,r5,0\n", &[(5, &[0, 1])]), refused(21, 1));

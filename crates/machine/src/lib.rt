@@ -45,14 +45,12 @@ fn negated(mark: Mark, x: u8) -> u8
     }
 }
 
-// The shift rule, for both directions: a count of 8 or more gives 0.
+// The shift rule, for both directions: a count is taken modulo 8.
 fn shifted(left: bool, x: u8, y: u8) -> u8
     ensures { λ r. ⌜ r ≡ cond left (shiftBy y (λ n. x * 2 ^ n % 256)) (shiftBy y (λ n. x / 2 ^ n)) ⌝ }
 {
-    if 8 <= y {
-        return 0;
-    }
-    if left { x << y } else { x >> y }
+    let n = y % 8;
+    if left { x << n } else { x >> n }
 }
 
 fn times(x: u8, y: u8) -> u8

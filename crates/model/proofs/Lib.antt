@@ -27,4 +27,5 @@ pub mod ExpansionLaws
 pub mod OutcomeLaws
 pub mod CheckAnswers
 pub mod Edges
+pub mod ShiftCounts
 pub mod AtOneProgram

@@ -3,7 +3,7 @@
 use mathlib.Core.Bool.{Bool, true, false, not, cond}
 use mathlib.Core.List.{List, [], _∷_}
 use Prim.Native.Nat.{ℕ, suc, _+_, _-_, _*_, _/_, _%_, _^_}
-use lib.Dec.{eqb, ltb}
+use lib.Dec.{eqb}
 use lib.Bits.{bitAnd, bitOr, bitXor}
 use lib.Count.{ones}
 use lib.ListN.{getD, set}
@@ -29,9 +29,9 @@ distance x y = weight (bitXor x y)
 abbrev pub wrappingAdd : ℕ → ℕ → ℕ
 wrappingAdd x y = (x + y) % 256
 
--- the shift rule: a count of 8 or more gives 0
+-- the shift rule, for both directions and under either mark: a count is taken modulo 8 (request 02)
 abbrev pub shiftBy : ℕ → (ℕ → ℕ) → ℕ
-shiftBy y shift = cond (ltb y 8) (shift y) 0
+shiftBy y shift = shift (y % 8)
 
 -- `not`: 255 less the value in a u line, the lowest bit flipped in an s line
 unfoldable pub negated : Mark → ℕ → ℕ

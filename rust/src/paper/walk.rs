@@ -2,7 +2,7 @@
 //! rest: every choice of values is made, one after the other, and the machine's
 //! own step is done in each.
 
-use super::{base, place, refused, step, Line, Opcode, Operand, STATE};
+use super::{base, place, refused, step, Line, Opcode, Operand, ROW, STATE};
 use crate::answer::Answer;
 use std::collections::BTreeSet;
 
@@ -86,6 +86,16 @@ pub fn undecided(line: &Line, sets: &[Values]) -> bool {
 
 /// One step on sets: gives the next counter, and the written place gets all results.
 pub fn step_on_sets(line: &Line, counter: u16, sets: &mut [Values]) -> Result<u16, Stop> {
+    step_on_sets_by(line, counter, sets, step)
+}
+
+/// The same, with the machine's step that is done in each choice.
+pub fn step_on_sets_by(
+    line: &Line,
+    counter: u16,
+    sets: &mut [Values],
+    one_step: impl Fn(&Line, u16, &mut [u8]) -> (u16, [u16; ROW]),
+) -> Result<u16, Stop> {
     if undecided(line, sets) {
         return Err(Stop::Refused(21));
     }
@@ -100,7 +110,7 @@ pub fn step_on_sets(line: &Line, counter: u16, sets: &mut [Values]) -> Result<u1
             return;
         }
         let mut after = *state;
-        outcomes.insert(step(line, counter, &mut after));
+        outcomes.insert(one_step(line, counter, &mut after));
         results.extend(written.iter().map(|&place| after[place]));
     });
     if results.len() > MOST_VALUES {
