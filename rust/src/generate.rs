@@ -493,7 +493,8 @@ fn crowded_walk(rng: &mut Random) -> (Vec<Line>, Vec<Vec<u8>>) {
 }
 
 /// Few shifts, mostly by 8 or more, some by counts that are alike modulo 8. In other programs such
-/// counts are rare in marked lines and behind `%` and `^`.
+/// counts are rare in marked lines and behind `%` and `^`. r4 to r7, which are shifted and written
+/// most often, have one value, so that the count alone has several.
 fn shifting_walk(rng: &mut Random) -> (Vec<Line>, Vec<Vec<u8>>) {
     let register = |rng: &mut Random| Register(few(rng, 4, 15));
     let mut lines = vec![];

@@ -597,7 +597,7 @@ fn variants() -> Vec<Variant> {
             ..RIGHT
         },
         Variant {
-            fault: "a shift count of 8 or more gives 0 if no literal",
+            fault: "a shift count of 8 or more gives 0 unless it is a literal",
             run: |program, start, budget, state, trace| {
                 run_with_zeros((program, start, budget), state, trace, |line, count| {
                     count >= 8 && !matches!(line.second, Some(Operand::Literal(_)))

@@ -221,7 +221,7 @@ module _ (L : Layout) (K : Known L) (p : List Line) (A : Accepted p) where
 abbrev pub Within : ℕ → List Line → Type 0
 Within n = Every (λ l. T (not (isAbove n (l .target))))
 
--- a macro has no targets
+-- no target of a macro is above n, since it has none
 macro-within : (n : ℕ) (L : Layout) (o : Opcode) (d a b : Operand) → Within n (macro L o d a b)
 unfolding isAbove
 macro-within n = macro-lines (record { moves = λ d a. tt; masks = λ k m. tt; shifts = tt; joins = tt; flips = λ m. tt })
