@@ -98,12 +98,12 @@ mod tests {
 
     #[test]
     fn packing() {
-        assert_eq!(Answer::from_count(557_056), Counted(557_056));
-        assert_eq!(Answer::from_count(7 << 32 | 16_384), Refused { number: 7, line: 16_384 });
+        assert_eq!(Answer::from_count(1_114_112), Counted(1_114_112));
+        assert_eq!(Answer::from_count(7 << 32 | 32_768), Refused { number: 7, line: 32_768 });
         assert_eq!(Answer::from_run(3 << 16 | 2), Halted { counter: 3, steps: 2 });
         assert_eq!(Answer::from_run(1 << 32 | 65_535), Spent { counter: 0, steps: 65_535 });
         assert_eq!(Answer::from_run(20 << 48), Refused { number: 20, line: 0 });
-        assert_eq!(Answer::from_run(7 << 48 | 16_384), Refused { number: 7, line: 16_384 });
+        assert_eq!(Answer::from_run(7 << 48 | 32_768), Refused { number: 7, line: 32_768 });
         assert_eq!(Answer::from_judge(3 << 16 | 2), Balanced { counter: 3, steps: 2 });
         assert_eq!(Answer::from_judge(1 << 32 | 65_535), Spent { counter: 0, steps: 65_535 });
         assert_eq!(Answer::from_judge(2 << 32 | 9 << 16 | 4), Leak { line: 9, steps: 4 });

@@ -119,6 +119,8 @@ pub struct Counts {
     pub whole_runs: u64,
     pub equal_rows: u64,
     pub followed_steps: u64,
+    /// Those of them with a public bit in a marked line.
+    pub public_bits: u64,
 }
 
 impl Counts {
@@ -155,8 +157,8 @@ impl Counts {
         );
         shown
             + &format!(
-                "\naccepted programs run whole: {}, rows of equal traces: {}, source steps followed: {}",
-                self.whole_runs, self.equal_rows, self.followed_steps
+                "\naccepted programs run whole: {}, rows of equal traces: {}, source steps followed: {} ({} with a public bit)",
+                self.whole_runs, self.equal_rows, self.followed_steps, self.public_bits
             )
     }
 }
@@ -537,17 +539,18 @@ impl Comparison<'_> {
                 self.read(&text, room)?;
             }
             1 => {
-                let mut program =
-                    make::stored(&make::long_program(&mut self.rng, MOST_LINES - 1 + near, false));
+                let count = MOST_LINES - 1 + near;
+                let mut program = make::stored(&make::long_program(&mut self.rng, count, false));
                 if self.rng.one_in(4) {
                     make::damage_numbers(&mut self.rng, &mut program);
                 }
                 let state = make::any_state(&mut self.rng);
+                let start = self.start(count);
                 match self.rng.below(6) {
                     0 => drop(self.write(&program, MOST_BYTES)?),
                     1 => drop(self.check(&program)?),
                     2 => drop(self.expand(&program, SIX * MOST_LINES)?),
-                    3 => drop(self.run(&program, (0, 300), &state, ROW * 300)?),
+                    3 => drop(self.run(&program, (start, 300), &state, ROW * 300)?),
                     _ => {
                         let sets: Vec<Vec<u8>> = state.iter().map(|&value| vec![value]).collect();
                         let mut bytes = make::set_bytes(&mut self.rng, &sets);
@@ -648,7 +651,10 @@ impl Comparison<'_> {
         let (answer, source, trace) = self.run(&program, (line, budget), &one, ROW * budget)?;
         let done = self::steps(answer);
         let part = |row: &[u16]| starts[row[0] as usize + 1] - starts[row[0] as usize];
-        let length: usize = trace[..ROW * done].chunks_exact(ROW).map(part).sum();
+        let rows = trace[..ROW * done].chunks_exact(ROW);
+        let public_bits = rows.clone().filter(|row| make::has_public_bit(&lines[row[0] as usize])).count();
+        let length: usize = rows.map(part).sum();
+        must(done <= length && length <= LONGEST * done, "the expansion takes too few or too many steps")?;
         let stands = starts[counter(answer).min(lines.len())];
         let (answer, mut state, _) = self.run(&expansion, (start, length), &image_one, ROW * length)?;
         must(self::steps(answer) == length && counter(answer) == stands, "the expansion stands elsewhere")?;
@@ -663,6 +669,7 @@ impl Comparison<'_> {
         self.counts.whole_runs += 1;
         self.counts.equal_rows += steps as u64;
         self.counts.followed_steps += done as u64;
+        self.counts.public_bits += public_bits as u64;
         Ok(())
     }
 }

@@ -2,12 +2,15 @@
 
 use crate::paper::walk::{MOST_VALUES, SET};
 use crate::paper::{
-    self, code, kind_of_place, table_page, Kind, Line, Opcode, Operand, Operand::*, LONGEST, MOST_LINES,
-    OPCODES, STATE,
+    self, code, is_public, kind_of_place, table_page, Kind, Line, Opcode, Operand, Operand::*, MOST_LINES,
+    OPCODES, SIX, STATE,
 };
 use crate::random::Random;
 
 // ---------------------------------------------------------------- lines
+
+/// The last target, the last one before request 03, and those beside them.
+const NEAR_LAST: [u16; 6] = [16_383, 16_384, 16_385, 32_767, 32_768, 32_769];
 
 /// Numbers near the ends of a range as well as inside it.
 fn edgy(rng: &mut Random, low: usize, high: usize) -> usize {
@@ -93,6 +96,7 @@ pub fn accepted_line(rng: &mut Random, count: usize) -> Line {
         let opcode = OPCODES[rng.within(2, 6)].0;
         let argument = |rng: &mut Random| match rng.below(6) {
             0 => Literal(rng.bit()),
+            1 | 2 => public_place(rng),
             _ => sensitive_place(rng),
         };
         line(rng, true, opcode, sensitive_place, argument, count)
@@ -110,7 +114,16 @@ pub fn accepted_line(rng: &mut Random, count: usize) -> Line {
 pub fn any_line(rng: &mut Random) -> Line {
     let marked = rng.one_in(2);
     let opcode = OPCODES[rng.below(OPCODES.len())].0;
-    line(rng, marked, opcode, any_place, any_argument, MOST_LINES)
+    let mut line = line(rng, marked, opcode, any_place, any_argument, MOST_LINES);
+    if rng.one_in(4) {
+        line.target = line.target.map(|_| right_target(rng));
+    }
+    line
+}
+
+/// A target that is right, near the last.
+fn right_target(rng: &mut Random) -> u16 {
+    rng.pick(&NEAR_LAST).min(MOST_LINES as u16)
 }
 
 /// An unmarked jump.
@@ -125,13 +138,19 @@ pub fn jump(target: u16) -> Line {
     }
 }
 
+/// A line with a public place whose lowest bit alone is meant.
+pub fn has_public_bit(line: &Line) -> bool {
+    line.marked && [line.first, line.second].into_iter().flatten().any(is_public)
+}
+
 /// The length of a line's part of the expansion, were it accepted.
 pub fn part_length(line: &Line) -> usize {
+    let public = [line.first, line.second].into_iter().flatten().filter(|&argument| is_public(argument));
     match line.opcode {
         _ if !line.marked => 1,
-        Opcode::Not => 5,
-        Opcode::Mov => 4,
-        _ => LONGEST,
+        Opcode::Not => 5 + 2 * public.count(),
+        Opcode::Mov => 4 + 2 * public.count(),
+        _ => 13 + 2 * public.count(),
     }
 }
 
@@ -160,25 +179,25 @@ fn nearly_accepted_line(rng: &mut Random, count: usize) -> Line {
             let operand = rng.pick(&names);
             put_operand(rng, &mut line, operand);
         }
-        3 => {
-            line = accepted_line(rng, count);
-            line.marked = true;
-            line.destination = line.destination.map(|_| sensitive_place(rng));
-            line.first = line.first.map(|_| public_place(rng));
-        }
-        4 => {
+        // With public arguments what was refused with 13 before request 03.
+        3 | 4 => {
             let opcode = OPCODES[rng.pick(&[0, 1, 7, 8, 9, 10, 11, 12])].0;
-            line = self::line(rng, true, opcode, sensitive_place, sensitive_place, count);
+            let argument = if rng.one_in(2) { public_place } else { sensitive_place };
+            line = self::line(rng, true, opcode, sensitive_place, argument, count);
         }
         5 => {
             let opcode = OPCODES[rng.within(2, 6)].0;
-            line = self::line(rng, true, opcode, sensitive_place, sensitive_place, count);
+            let argument = if rng.one_in(2) { public_place } else { sensitive_place };
+            line = self::line(rng, true, opcode, sensitive_place, argument, count);
             line.first = Some(Literal(edgy(rng, 2, 255) as u8));
         }
         6 => {
             let opcode = OPCODES[rng.pick(&[1, 11, 12])].0;
             line = self::line(rng, false, opcode, public_place, public_place, count);
-            line.target = Some(edgy(rng, count + 1, MOST_LINES.max(count + 1)) as u16);
+            line.target = Some(match rng.below(3) {
+                0 => right_target(rng),
+                _ => edgy(rng, count + 1, MOST_LINES.max(count + 1)) as u16,
+            });
         }
         _ => line = any_line(rng),
     }
@@ -220,9 +239,11 @@ pub fn accepted_program(rng: &mut Random) -> Vec<Line> {
 
 /// A program of correct lines, mostly with something for the mark check to find.
 pub fn program(rng: &mut Random) -> Vec<Line> {
-    match rng.below(4) {
+    match rng.below(5) {
         0 => accepted_program(rng),
         1 => (0..length(rng)).map(|_| any_line(rng)).collect(),
+        // All opcodes under both marks, and branches that stay inside.
+        2 => near_program(rng),
         _ => {
             let mut lines = accepted_program(rng);
             let count = lines.len();
@@ -253,21 +274,25 @@ pub fn text(lines: &[Line]) -> Vec<u8> {
 
 /// Changes some numbers of a stored program.
 pub fn damage_numbers(rng: &mut Random, program: &mut [u16]) {
-    // A target's number is one more than the line: the last one, and those beside it.
-    let [below, last, past] = [0, 1, 2].map(|more| MOST_LINES as u16 + more);
     // The last number of each form, those beside it, and the ends of everything.
     let edges = [
-        0, 1, 2, 3, 12, 13, 256, 257, 288, 289, 800, 801, 4_896, 4_897, 8_992, 8_993, below, last, past,
-        17_184, 17_185, 32_767, 65_535,
+        0, 1, 2, 3, 12, 13, 256, 257, 288, 289, 800, 801, 4_896, 4_897, 8_992, 8_993, 17_184, 17_185, 32_767,
+        65_535,
     ];
     if program.is_empty() {
         return;
     }
+    let targets: Vec<usize> = (5..program.len()).step_by(SIX).filter(|&at| program[at] != 0).collect();
     for _ in 0..rng.within(1, 3) {
-        let at = rng.below(program.len());
+        let mut at = rng.below(program.len());
+        if rng.one_in(4) && !targets.is_empty() {
+            at = rng.pick(&targets);
+        }
         program[at] = match rng.below(4) {
             0 => rng.next() as u16,
             1 => program[at].wrapping_add(rng.pick(&[1, 65_535, 128, 256])),
+            // A target's number is one more than the line.
+            2 if at % SIX == 5 && program[at] != 0 => 1 + rng.pick(&NEAR_LAST),
             _ => rng.pick(&edges),
         };
     }
@@ -298,10 +323,8 @@ pub fn damage_text(rng: &mut Random, text: &mut Vec<u8>) {
         "!4+1",
         "!r4+",
         "%r+1",
-        // One more than MOST_LINES, and the number itself.
-        "16385",
-        "16384",
         "016",
+        "32768",
         "65536",
         "4294967296",
         "99999999999999999999",
@@ -346,7 +369,10 @@ pub fn damage_text(rng: &mut Random, text: &mut Vec<u8>) {
                 let from = text[..at].iter().rposition(stop).map_or(0, |comma| comma + 1);
                 let to = text[at..].iter().position(stop).map_or(size, |comma| at + comma);
                 if from <= to {
-                    text.splice(from..to, rng.pick(FIELDS).bytes());
+                    let target = from < to && text.get(to) == Some(&b'\n') && rng.one_in(2);
+                    let field =
+                        if target { rng.pick(&NEAR_LAST).to_string() } else { rng.pick(FIELDS).to_string() };
+                    text.splice(from..to, field.bytes());
                 }
             }
             _ => {
@@ -418,9 +444,17 @@ pub fn damage_state(rng: &mut Random, state: &mut Vec<u8>) {
         state.resize(size, 0);
         return;
     }
+    if rng.one_in(8) {
+        // The two cells that request 03 fills, as they were before it, exchanged, or alike.
+        let both = rng.pick(&[[0, 0], [1, 2], [1, 1], [2, 2]]);
+        state[32 + 496..=32 + 497].copy_from_slice(&both);
+        return;
+    }
     for _ in 0..rng.within(1, 2) {
         let whole = rng.below(STATE);
-        let edges = [0, 1, 2, 3, 4, 15, 16, 31, 32, 159, 160, 287, 288, 293, 335, 336, 543, whole];
+        let edges = [
+            0, 1, 2, 3, 4, 15, 16, 31, 32, 159, 160, 287, 288, 293, 335, 336, 527, 528, 529, 530, 543, whole,
+        ];
         let place = rng.pick(&edges);
         state[place] = match rng.below(3) {
             0 => rng.byte(),
@@ -443,7 +477,7 @@ pub fn wrong_length(rng: &mut Random) -> usize {
 
 /// A program to judge, and the values that each place may have.
 pub fn walk(rng: &mut Random) -> (Vec<Line>, Vec<Vec<u8>>) {
-    match rng.below(7) {
+    match rng.below(8) {
         0 | 1 => {
             let mut lines = paper::expansion(&accepted_program(rng));
             patch(rng, &mut lines);
@@ -453,6 +487,7 @@ pub fn walk(rng: &mut Random) -> (Vec<Line>, Vec<Vec<u8>>) {
         }
         2 => crowded_walk(rng),
         3 => shifting_walk(rng),
+        4 => public_walk(rng),
         _ => (near_program(rng), free_sets(rng)),
     }
 }
@@ -493,10 +528,10 @@ fn crowded_walk(rng: &mut Random) -> (Vec<Line>, Vec<Vec<u8>>) {
 }
 
 /// Few shifts, mostly by 8 or more, some by counts that are alike modulo 8. In other programs such
-/// counts are rare in marked lines and behind `%` and `^`. r4 to r7, which are shifted and written
+/// counts are rare in marked lines and behind `%` and `^`. r16 to r19, which are shifted and written
 /// most often, have one value, so that the count alone has several.
 fn shifting_walk(rng: &mut Random) -> (Vec<Line>, Vec<Vec<u8>>) {
-    let register = |rng: &mut Random| Register(few(rng, 4, 15));
+    let register = |rng: &mut Random| Register(few(rng, 16, 31));
     let mut lines = vec![];
     for _ in 0..rng.within(1, 4) {
         let opcode = rng.pick(&[Opcode::Lsl, Opcode::Lsr]);
@@ -507,9 +542,47 @@ fn shifting_walk(rng: &mut Random) -> (Vec<Line>, Vec<Vec<u8>>) {
     let mut sets = vec![];
     for place in 0..STATE {
         let (value, other) = (rng.byte(), rng.byte());
+        let shifted = (16..20).contains(&place);
         sets.push(match rng.below(4) {
-            0 if place >= 8 => vec![value, value % 8],
-            1 if place >= 8 => vec![value, other],
+            0 if !shifted => vec![value, value % 8],
+            1 if !shifted => vec![value, other],
+            _ => vec![value],
+        });
+    }
+    (lines, sets)
+}
+
+/// Lines, mostly marked, with public places of several values, which often are alike in their
+/// lowest bits. r16 to r19, which are written most often, have one value.
+fn public_walk(rng: &mut Random) -> (Vec<Line>, Vec<Vec<u8>>) {
+    let argument = |rng: &mut Random| match rng.below(10) {
+        0 => literal(rng),
+        1 => any_place(rng),
+        2 => Register(few(rng, 16, 31)),
+        _ => public_place(rng),
+    };
+    let place = |rng: &mut Random| match rng.below(4) {
+        0 => any_place(rng),
+        _ => Register(few(rng, 16, 31)),
+    };
+    let count = rng.within(1, 6);
+    let mut lines = vec![];
+    while lines.len() < count {
+        let opcode = match rng.below(3) {
+            0 => rng.pick(&[Opcode::Beq, Opcode::Bne]),
+            _ => OPCODES[rng.within(1, 10)].0,
+        };
+        let marked = !rng.one_in(8);
+        lines.push(line(rng, marked, opcode, place, argument, count));
+    }
+    let mut sets = vec![];
+    for place in 0..STATE {
+        let (value, other) = (rng.byte(), rng.byte());
+        let written = (16..20).contains(&place);
+        sets.push(match rng.below(8) {
+            0..=2 if !written => vec![value, value ^ other & 254],
+            3 if !written => (0..16).map(|more| value ^ 16 * more).collect(),
+            4 if !written => vec![value, other],
             _ => vec![value],
         });
     }

@@ -12,9 +12,10 @@ pub const STATE: usize = 32 + 512;
 pub const SIX: usize = 6;
 pub const ROW: usize = 6;
 /// Most lines of any program, of one for the mark check, and of a line's part of an expansion.
-pub const MOST_LINES: usize = 16_384;
+/// Request 03: 32,768 and 17, where document 01 has 16,384 and 13.
+pub const MOST_LINES: usize = 32_768;
 pub const MOST_CHECKED: usize = 1_024;
-pub const LONGEST: usize = 13;
+pub const LONGEST: usize = 17;
 /// Most bytes of a program's text: the longest line has 33 and its newline.
 pub const MOST_BYTES: usize = 34 * MOST_LINES;
 
@@ -370,6 +371,10 @@ fn kind(operand: Operand) -> Option<Kind> {
     }
 }
 
+pub fn is_public(operand: Operand) -> bool {
+    kind(operand) == Some(Kind::Public)
+}
+
 fn base(operand: Operand) -> Option<u8> {
     match operand {
         Public { base, .. } | Sensitive { base, .. } | Table { base, .. } => Some(base),
@@ -377,11 +382,12 @@ fn base(operand: Operand) -> Option<u8> {
     }
 }
 
-/// The lowest of the conditions 10 to 16 that holds for a line.
+/// The lowest of the conditions 10 to 16 that holds for a line. Request 03: 13 no longer
+/// occurs, and the others keep their numbers.
 fn mark_fault(line: &Line, line_count: usize) -> Option<u16> {
     let arguments: Vec<Operand> = [line.first, line.second].into_iter().flatten().collect();
     let operands: Vec<Operand> = line.destination.into_iter().chain(arguments.iter().copied()).collect();
-    let any_argument = |wanted: Kind| arguments.iter().any(|&operand| kind(operand) == Some(wanted));
+    let sensitive_argument = arguments.iter().any(|&operand| kind(operand) == Some(Kind::Sensitive));
     let any_base = |low: u8, high: u8| {
         operands.iter().any(|&operand| base(operand).is_some_and(|base| low <= base && base <= high))
     };
@@ -390,8 +396,7 @@ fn mark_fault(line: &Line, line_count: usize) -> Option<u16> {
     let conditions = [
         (10, any_base(0, 3) || operands.iter().any(|&operand| kind(operand) == Some(Kind::Other))),
         (11, line.destination.is_some_and(|operand| kind(operand) == Some(wrong_destination))),
-        (12, !line.marked && any_argument(Kind::Sensitive) || any_base(16, 31)),
-        (13, line.marked && any_argument(Kind::Public)),
+        (12, !line.marked && sensitive_argument || any_base(16, 31)),
         (14, line.marked && !matches!(line.opcode, Not | Mov | And | Orr | Xor)),
         (15, line.marked && operands.iter().any(|operand| matches!(operand, Literal(2..)))),
         (16, line.target.is_some_and(|target| target as usize > line_count)),
@@ -418,6 +423,9 @@ pub fn code(bit: u8) -> u8 {
     2 - bit
 }
 
+/// Where the table page has the codes of a public bit, request 03: cells 496 and 497.
+const PUBLIC_BIT: u8 = 240;
+
 /// An argument of a marked line, its literal coded.
 fn coded(operand: Option<Operand>) -> Option<Operand> {
     match operand {
@@ -443,37 +451,48 @@ pub fn part(line: &Line) -> Vec<Line> {
     };
     let mov = |destination, first| three(Mov, destination, first, None);
     let (d, a, b) = (line.destination, coded(line.first), coded(line.second));
+    // Request 03: a public place is no code; its lowest bit has one in cell 496 or 497.
+    let load = |x: u8, argument: Option<Operand>| {
+        let mut lines = vec![mov(r(x), argument)];
+        if argument.is_some_and(is_public) {
+            lines.push(three(And, r(x), r(x), literal(1)));
+            lines.push(mov(r(x), Some(Table { base: x, offset: PUBLIC_BIT })));
+        }
+        lines
+    };
     let table = |t: u8| {
-        vec![
-            mov(r(1), r(0)),
-            mov(r(1), a),
-            three(And, r(1), r(1), literal(3)),
-            three(Lsl, r(1), r(1), literal(1)),
-            three(Lsl, r(1), r(1), literal(1)),
-            mov(r(2), r(0)),
-            mov(r(2), b),
-            three(And, r(2), r(2), literal(3)),
-            three(Orr, r(1), r(1), r(2)),
-            mov(r(3), r(0)),
-            mov(r(3), Some(Table { base: 1, offset: t })),
-            mov(d, r(0)),
-            mov(d, r(3)),
+        [
+            vec![mov(r(1), r(0))],
+            load(1, a),
+            vec![
+                three(And, r(1), r(1), literal(3)),
+                three(Lsl, r(1), r(1), literal(1)),
+                three(Lsl, r(1), r(1), literal(1)),
+                mov(r(2), r(0)),
+            ],
+            load(2, b),
+            vec![
+                three(And, r(2), r(2), literal(3)),
+                three(Orr, r(1), r(1), r(2)),
+                mov(r(3), r(0)),
+                mov(r(3), Some(Table { base: 1, offset: t })),
+                mov(d, r(0)),
+                mov(d, r(3)),
+            ],
         ]
+        .concat()
     };
     match line.opcode {
         And => table(0),
         Orr => table(16),
         Xor => table(32),
-        Not => {
-            vec![
-                mov(r(1), r(0)),
-                mov(r(1), a),
-                three(Xor, r(1), r(1), literal(3)),
-                mov(d, r(0)),
-                mov(d, r(1)),
-            ]
-        }
-        Mov => vec![mov(r(3), r(0)), mov(r(3), a), mov(d, r(0)), mov(d, r(3))],
+        Not => [
+            vec![mov(r(1), r(0))],
+            load(1, a),
+            vec![three(Xor, r(1), r(1), literal(3)), mov(d, r(0)), mov(d, r(1))],
+        ]
+        .concat(),
+        Mov => [vec![mov(r(3), r(0))], load(3, a), vec![mov(d, r(0)), mov(d, r(3))]].concat(),
         _ => unreachable!("an accepted marked line"),
     }
 }
@@ -523,6 +542,9 @@ pub fn table_page() -> [u8; 256] {
                 page[16 * which + (4 * code(a) + code(b)) as usize] = code(operation(a, b));
             }
         }
+    }
+    for bit in 0..2 {
+        page[(PUBLIC_BIT + bit) as usize] = code(bit);
     }
     page
 }
@@ -596,19 +618,27 @@ fn address_ones(operand: Option<Operand>, state: &[u8]) -> u16 {
     }
 }
 
-/// The value of an argument, 0 where the line has none.
-pub fn value(operand: Option<Operand>, state: &[u8]) -> u8 {
-    match operand {
+/// The value of an argument, 0 where the line has none. Request 03: a public place in a
+/// marked line means its lowest bit. What is no argument, a base too, is read whole.
+pub fn value(marked: bool, argument: Option<Operand>, state: &[u8]) -> u8 {
+    match argument {
         None => 0,
         Some(Literal(n)) => n,
-        Some(other) => state[place(other, state).unwrap()],
+        Some(other) => {
+            let whole = state[place(other, state).unwrap()];
+            if marked && is_public(other) {
+                whole & 1
+            } else {
+                whole
+            }
+        }
     }
 }
 
 /// One step: the next counter and the trace row.
 pub fn step(line: &Line, counter: u16, state: &mut [u8]) -> (u16, [u16; ROW]) {
-    let a = value(line.first, state);
-    let b = value(line.second, state);
+    let a = value(line.marked, line.first, state);
+    let b = value(line.marked, line.second, state);
     let mut row = [
         counter,
         0,

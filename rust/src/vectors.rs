@@ -13,7 +13,7 @@ use std::panic::{catch_unwind, AssertUnwindSafe};
 use std::path::Path;
 
 /// How many requests of document 02 are in force: one more with each that lands.
-pub const IN_FORCE: u32 = 2;
+pub const IN_FORCE: u32 = 3;
 
 /// What the cases are called on.
 pub struct Tested<'a> {
@@ -84,7 +84,7 @@ mod tests {
         "call expand\nlayout 0 0\nprogram \"u,jmp,,,,1\\n\"\nroom 8\nanswer count 1\nout \"u,jmp,,,,1\\n\"\n",
         "call expand\nprogram \"s,jmp,,,,1\\n\"\nroom 8\nanswer refused 14 0\n",
         "call to-image\nstate 16*00 01 527*00\nroom 544\nanswer count 544\nbytes \
-         16*00 01 15*02 128*00 128*02 5*00 010200000202 10*00 010100000102 10*00 020100000102 213*00\n",
+         16*00 01 15*02 128*00 128*02 5*00 010200000202 10*00 010100000102 10*00 020100000102 197*00 0201 14*00\n",
         "call from-image\nstate 543*00\nroom 544\nanswer refused 18 0\n",
         "call run\nprogram \"u,mov,r4,#7,,\\n\"\nstate 544*00\nstart 0\nbudget 2\nroom 12\n\
          answer halted 1 1\nrow 0 3 3 0 0 0\nchanged 4=7\n",

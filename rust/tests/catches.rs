@@ -2,9 +2,11 @@
 //! with one fault each.
 
 use dualrail::compare::compare;
+use dualrail::generate::has_public_bit;
 use dualrail::paper::walk::{self, reach, step_on_sets, step_on_sets_by, Stop, Values, MOST_VALUES, SET};
 use dualrail::paper::{
-    self, starts, step, stored_program, Line, Opcode, Operand, Paper, MOST_CHECKED, MOST_LINES, ROW, SIX,
+    self, is_public, part, starts, step, stored_program, value, Line, Opcode, Operand, Paper, MOST_CHECKED,
+    MOST_LINES, ROW, SIX, STATE,
 };
 use dualrail::Answer::{self, *};
 use dualrail::Dualrail;
@@ -64,6 +66,10 @@ fn refused(number: u16) -> Answer {
     Refused { number, line: 0 }
 }
 
+fn is_branch(line: &Line) -> bool {
+    matches!(line.opcode, Opcode::Beq | Opcode::Bne)
+}
+
 /// The text with one piece put for another.
 fn replaced(text: &[u8], from: &str, to: &str) -> Vec<u8> {
     let text: String = text.iter().map(|&byte| byte as char).collect();
@@ -91,6 +97,16 @@ fn changed_expansion(
     answer
 }
 
+/// The second of the lines that load a public place.
+fn masks(new: &Line) -> bool {
+    new.opcode == Opcode::And && new.second == Some(Operand::Literal(1))
+}
+
+/// The third of them.
+fn decodes(new: &Line) -> bool {
+    matches!(new.first, Some(Operand::Table { offset: 240, .. }))
+}
+
 /// Runs with a changed program.
 fn changed_run(
     (program, start, budget): (&[u16], u16, u16),
@@ -106,34 +122,143 @@ fn changed_run(
     Paper.run(&program, start, budget, state, trace)
 }
 
-/// Which shifts give 0, by line and count.
-type Zeros = fn(&Line, u8) -> bool;
-
-/// The right step, except that these shifts give 0.
-fn step_with_zeros(line: &Line, counter: u16, state: &mut [u8], zeros: Zeros) -> (u16, [u16; ROW]) {
-    let shift = matches!(line.opcode, Opcode::Lsl | Opcode::Lsr);
-    if !shift || !zeros(line, paper::value(line.second, state)) {
-        return step(line, counter, state);
+/// Expands, each line's part made by another rule.
+fn expanded_by(program: &[u16], out: &mut [u16], part: fn(&Line) -> Vec<Line>) -> Answer {
+    let (Counted(_), Ok(lines)) = (Paper.check(program), stored_program(program)) else {
+        return Paper.expand(program, out);
+    };
+    let mut starts = vec![0];
+    for line in &lines {
+        starts.push(starts[starts.len() - 1] + part(line).len());
     }
-    // 0 shifted by any count is 0; the row still has the address of the argument.
+    let mut numbers = vec![];
+    for mut line in lines.iter().flat_map(part) {
+        line.target = line.target.map(|target| starts[target as usize] as u16);
+        numbers.extend(line.stored());
+    }
+    if out.len() / SIX * SIX < numbers.len() {
+        return refused(17);
+    }
+    out[..numbers.len()].copy_from_slice(&numbers);
+    Counted((numbers.len() / SIX) as u32)
+}
+
+/// The right step with the line as a wrong machine takes it in the state.
+fn step_taking(
+    line: &Line,
+    counter: u16,
+    state: &mut [u8],
+    taken: impl Fn(&Line, &[u8]) -> Line,
+) -> (u16, [u16; ROW]) {
     let (_, right) = step(line, counter, &mut state.to_vec());
-    let zero = Line { first: Some(Operand::Literal(0)), ..*line };
-    let (next, mut row) = step(&zero, counter, state);
-    row[3] = right[3];
+    let taken = taken(line, state);
+    let (next, mut row) = step(&taken, counter, state);
+    // Where a literal is taken for a place, the row still has the address.
+    for (at, argument) in [(3, taken.first), (4, taken.second)] {
+        if let Some(Operand::Literal(_)) = argument {
+            row[at] = right[at];
+        }
+    }
     (next, row)
 }
 
 /// Runs with that step.
-fn run_with_zeros(
+fn run_taking(
     (program, start, budget): (&[u16], u16, u16),
     state: &mut [u8],
     trace: &mut [u16],
-    zeros: Zeros,
+    taken: impl Fn(&Line, &[u8]) -> Line,
 ) -> Answer {
-    let step = |line: &Line, counter, state: &mut [u8]| step_with_zeros(line, counter, state, zeros);
+    let step = |line: &Line, counter, state: &mut [u8]| step_taking(line, counter, state, &taken);
     match stored_program(program) {
         Ok(lines) => paper::run(&lines, start, budget, state, trace, step),
         Err(answer) => answer,
+    }
+}
+
+/// The value that a line with a destination writes.
+fn written_value(line: &Line, state: &[u8]) -> u8 {
+    let mut after = state.to_vec();
+    step(&Line { destination: Some(Operand::Register(0)), ..*line }, 0, &mut after);
+    after[0]
+}
+
+/// The line with first argument 0, and so result 0, if it is one of these shifts, by line and count.
+fn with_zero(line: &Line, state: &[u8], zeros: fn(&Line, u8) -> bool) -> Line {
+    let shift = matches!(line.opcode, Opcode::Lsl | Opcode::Lsr);
+    if shift && zeros(line, value(line.marked, line.second, state)) {
+        Line { first: Some(Operand::Literal(0)), ..*line }
+    } else {
+        *line
+    }
+}
+
+/// How a wrong machine reads an argument's place: whole, its lowest bit, or as is right.
+#[derive(Clone, Copy)]
+enum Reads {
+    Whole,
+    LowestBit,
+    Right,
+}
+
+/// The line with the values of its arguments in place of them, read as line and argument decide.
+fn reading(line: &Line, state: &[u8], reads: fn(&Line, Operand) -> Reads) -> Line {
+    let literal = |argument: Option<Operand>| {
+        argument.map(|operand| {
+            let whole = value(false, argument, state);
+            Operand::Literal(match reads(line, operand) {
+                Reads::Whole => whole,
+                Reads::LowestBit => whole & 1,
+                Reads::Right => value(line.marked, argument, state),
+            })
+        })
+    };
+    Line { first: literal(line.first), second: literal(line.second), ..*line }
+}
+
+/// Whole where this holds, else right.
+fn whole_if(whole: bool) -> Reads {
+    if whole {
+        Reads::Whole
+    } else {
+        Reads::Right
+    }
+}
+
+/// The lowest bit where this holds in a marked line, else right.
+fn lowest_bit_if(line: &Line, lowest: bool) -> Reads {
+    if line.marked && lowest {
+        Reads::LowestBit
+    } else {
+        Reads::Right
+    }
+}
+
+/// The line with the cells that it names if bases r4 to r15 are their lowest bits in a marked line.
+fn with_lowest_bases(line: &Line, state: &[u8]) -> Line {
+    let cell = |operand: Option<Operand>| {
+        operand.map(|operand| {
+            let sum = |base: u8, offset: u8| (state[base as usize] & 1) as u16 + offset as u16;
+            match operand {
+                Operand::Public { base: base @ 4..=15, offset } => Operand::Cell(sum(base, offset) % 128),
+                Operand::Sensitive { base: base @ 4..=15, offset } => {
+                    Operand::Cell(128 + sum(base, offset) % 128)
+                }
+                Operand::Table { base: base @ 4..=15, offset } => {
+                    Operand::Cell(256 + sum(base, offset) % 256)
+                }
+                other => other,
+            }
+        })
+    };
+    match line.marked {
+        true => Line {
+            destination: cell(line.destination),
+            first: cell(line.first),
+            second: cell(line.second),
+            ..*line
+        },
+        false => *line,
     }
 }
 
@@ -171,10 +296,16 @@ fn with_values(
     next
 }
 
-/// A register that the line does not name.
-fn spare(line: &Line) -> u8 {
+/// Whether all values have the same lowest bit.
+fn one_lowest_bit(values: &Values) -> bool {
+    values.iter().all(|value| value & 1 == 0) || values.iter().all(|value| value & 1 == 1)
+}
+
+/// A register that the line does not name, read in it as this one is.
+fn spare(line: &Line, register: u8) -> u8 {
     let spelling = line.spelling();
-    (16..32).find(|register| !spelling.contains(&format!("r{register}"))).unwrap()
+    let mut alike = if is_public(Operand::Register(register)) { 4..16 } else { 16..32 };
+    alike.find(|register| !spelling.contains(&format!("r{register}"))).unwrap()
 }
 
 /// The row of a step, and the values of the places written.
@@ -245,6 +376,43 @@ fn variants() -> Vec<Variant> {
                 Refused { number: 7, line } if store.len() / SIX == MOST_LINES => Refused { number: 8, line },
                 answer => answer,
             },
+            ..RIGHT
+        },
+        Variant {
+            fault: "7 after 16,384 lines of text",
+            read: |text, store| {
+                let lines = text.split_inclusive(|&byte| byte == b'\n');
+                let front: usize = lines.take(16_384).map(<[u8]>::len).sum();
+                match Paper.read(&text[..front], store) {
+                    Counted(_) if front < text.len() => Refused { number: 7, line: 16_384 },
+                    answer => answer,
+                }
+            },
+            ..RIGHT
+        },
+        Variant {
+            fault: "a target of 16,385 is not read",
+            read: |text, store| {
+                let kept = store.to_vec();
+                let answer = Paper.read(text, store);
+                let (Counted(count) | Refused { line: count, .. }) = answer else { return answer };
+                let read = &store[..SIX * count as usize];
+                let Some(line) = read.chunks_exact(SIX).position(|six| six[5] > 1 + 16_384) else {
+                    return answer;
+                };
+                store[SIX * line..].copy_from_slice(&kept[SIX * line..]);
+                Refused { number: 6, line: line as u32 }
+            },
+            ..RIGHT
+        },
+        Variant {
+            fault: "a target of 32,768 is not read",
+            read: |text, store| Paper.read(&replaced(text, ",32768\n", ",32769\n"), store),
+            ..RIGHT
+        },
+        Variant {
+            fault: "a target of 32,769 is read",
+            read: |text, store| Paper.read(&replaced(text, ",32769\n", ",32768\n"), store),
             ..RIGHT
         },
         Variant {
@@ -341,10 +509,43 @@ fn variants() -> Vec<Variant> {
             ..RIGHT
         },
         Variant {
-            fault: "no 13",
+            fault: "13 for a public argument in a marked line",
+            check: |program| match (Paper.check(program), stored_program(program)) {
+                (Counted(count), Ok(lines)) => match lines.iter().position(has_public_bit) {
+                    Some(line) => Refused { number: 13, line: line as u32 },
+                    None => Counted(count),
+                },
+                (answer, _) => answer,
+            },
+            ..RIGHT
+        },
+        Variant {
+            fault: "13 before 14 for a public argument in a marked line",
+            check: |program| match (Paper.check(program), stored_program(program)) {
+                (Refused { number: 14, line }, Ok(lines)) if has_public_bit(&lines[line as usize]) => {
+                    Refused { number: 13, line }
+                }
+                (answer, _) => answer,
+            },
+            ..RIGHT
+        },
+        Variant {
+            fault: "the numbers after 13 moved up",
             check: |program| match Paper.check(program) {
-                Refused { number: 13, .. } => Counted((program.len() / SIX) as u32),
+                Refused { number: number @ 14..=16, line } => Refused { number: number - 1, line },
                 answer => answer,
+            },
+            ..RIGHT
+        },
+        Variant {
+            fault: "a marked branch with public places passes",
+            check: |program| match (Paper.check(program), stored_program(program)) {
+                (Refused { number: 14, line }, Ok(lines))
+                    if has_public_bit(&lines[line as usize]) && is_branch(&lines[line as usize]) =>
+                {
+                    Counted(lines.len() as u32)
+                }
+                (answer, _) => answer,
             },
             ..RIGHT
         },
@@ -374,6 +575,32 @@ fn variants() -> Vec<Variant> {
             check: |program| match Paper.check(program) {
                 Refused { number: 7, .. } => refused(7),
                 answer => answer,
+            },
+            ..RIGHT
+        },
+        Variant {
+            fault: "7 for a stored program of more than 16,384 lines",
+            check: |program| match program.len() / SIX {
+                16_385.. => Refused { number: 7, line: 16_384 },
+                _ => Paper.check(program),
+            },
+            ..RIGHT
+        },
+        Variant {
+            fault: "6 for a stored target of 16,385",
+            check: |program| match Paper.check(program) {
+                Refused { number: 16, line } if program[SIX * line as usize + 5] > 1 + 16_384 => {
+                    Refused { number: 6, line }
+                }
+                answer => answer,
+            },
+            ..RIGHT
+        },
+        Variant {
+            fault: "a stored target of 32,769 is one",
+            check: |program| {
+                let changed = |&number: &u16| if number == 1 + 32_769 { 1 + 32_768 } else { number };
+                Paper.check(&program.iter().map(changed).collect::<Vec<u16>>())
             },
             ..RIGHT
         },
@@ -459,6 +686,73 @@ fn variants() -> Vec<Variant> {
             },
             ..RIGHT
         },
+        Variant {
+            fault: "a public place loaded by one line",
+            expand: |program, out| {
+                expanded_by(program, out, |line| {
+                    let mut lines = part(line);
+                    lines.retain(|new| !new.marked || !(masks(new) || decodes(new)));
+                    lines
+                })
+            },
+            ..RIGHT
+        },
+        Variant {
+            fault: "a public place loaded without and #1",
+            expand: |program, out| {
+                expanded_by(program, out, |line| {
+                    let mut lines = part(line);
+                    lines.retain(|new| !new.marked || !masks(new));
+                    lines
+                })
+            },
+            ..RIGHT
+        },
+        Variant {
+            fault: "the second argument alone loaded by three lines",
+            expand: |program, out| {
+                expanded_by(program, out, |line| {
+                    let first = Some(Operand::Register(1));
+                    let mut lines = part(line);
+                    lines.retain(|new| {
+                        new.destination != first || !new.marked || !(masks(new) || decodes(new))
+                    });
+                    lines
+                })
+            },
+            ..RIGHT
+        },
+        Variant {
+            fault: "no and #3 after a public place is loaded",
+            expand: |program, out| {
+                expanded_by(program, out, |line| {
+                    let mut lines = part(line);
+                    for at in (1..lines.len()).rev() {
+                        if decodes(&lines[at - 1]) && lines[at].opcode == Opcode::And {
+                            lines.remove(at);
+                        }
+                    }
+                    lines
+                })
+            },
+            ..RIGHT
+        },
+        Variant {
+            fault: "a public place behind a base loaded by one line",
+            expand: |program, out| {
+                expanded_by(program, out, |line| match line.first {
+                    Some(Operand::Public { base, offset }) if line.marked => {
+                        // `%` is loaded by one, and then `!` stands for it.
+                        let other = Some(Operand::Sensitive { base, offset });
+                        let mut lines = part(&Line { first: other, ..*line });
+                        lines[1].first = line.first;
+                        lines
+                    }
+                    _ => part(line),
+                })
+            },
+            ..RIGHT
+        },
         // Images.
         Variant {
             fault: "one wrong entry of the xor table",
@@ -466,6 +760,28 @@ fn variants() -> Vec<Variant> {
                 let answer = Paper.to_image(bits, image);
                 if let Counted(_) = answer {
                     image[32 + 256 + 32] = 2;
+                }
+                answer
+            },
+            ..RIGHT
+        },
+        Variant {
+            fault: "cells 496 and 497 exchanged",
+            to_image: |bits, image| {
+                let answer = Paper.to_image(bits, image);
+                if let Counted(_) = answer {
+                    image.swap(32 + 496, 32 + 497);
+                }
+                answer
+            },
+            ..RIGHT
+        },
+        Variant {
+            fault: "the image without cells 496 and 497",
+            to_image: |bits, image| {
+                let answer = Paper.to_image(bits, image);
+                if let Counted(_) = answer {
+                    image[32 + 496..=32 + 497].fill(0);
                 }
                 answer
             },
@@ -518,6 +834,40 @@ fn variants() -> Vec<Variant> {
             },
             ..RIGHT
         },
+        Variant {
+            fault: "the way back does not look at cells 496 and 497",
+            from_image: |image, bits| {
+                let mut image = image.to_vec();
+                if image.len() == STATE {
+                    image[32 + 496..=32 + 497].copy_from_slice(&[2, 1]);
+                }
+                Paper.from_image(&image, bits)
+            },
+            ..RIGHT
+        },
+        Variant {
+            fault: "the way back takes images without cells 496 and 497",
+            from_image: |image, bits| {
+                let mut image = image.to_vec();
+                if image.len() == STATE && image[32 + 496..=32 + 497] == [0, 0] {
+                    image[32 + 496..=32 + 497].copy_from_slice(&[2, 1]);
+                }
+                Paper.from_image(&image, bits)
+            },
+            ..RIGHT
+        },
+        Variant {
+            fault: "the way back takes any two codes in cells 496 and 497",
+            from_image: |image, bits| {
+                let mut image = image.to_vec();
+                if image.len() == STATE && image[32 + 496..=32 + 497].iter().all(|code| [1, 2].contains(code))
+                {
+                    image[32 + 496..=32 + 497].copy_from_slice(&[2, 1]);
+                }
+                Paper.from_image(&image, bits)
+            },
+            ..RIGHT
+        },
         // Runs.
         Variant {
             fault: "spent at step zero",
@@ -556,8 +906,9 @@ fn variants() -> Vec<Variant> {
         Variant {
             fault: "not flips all bits in a marked line",
             run: |program, start, budget, state, trace| {
-                changed_run((program, start, budget), state, trace, |line| {
-                    line.marked &= line.opcode != Opcode::Not;
+                run_taking((program, start, budget), state, trace, |line, state| match line.opcode {
+                    Opcode::Not => Line { marked: false, ..reading(line, state, |_, _| Reads::Right) },
+                    _ => *line,
                 })
             },
             ..RIGHT
@@ -565,15 +916,17 @@ fn variants() -> Vec<Variant> {
         Variant {
             fault: "a shift count of 8 or more gives 0",
             run: |program, start, budget, state, trace| {
-                run_with_zeros((program, start, budget), state, trace, |_, count| count >= 8)
+                run_taking((program, start, budget), state, trace, |line, state| {
+                    with_zero(line, state, |_, count| count >= 8)
+                })
             },
             ..RIGHT
         },
         Variant {
             fault: "a shift count of 8 or more gives 0 to the left",
             run: |program, start, budget, state, trace| {
-                run_with_zeros((program, start, budget), state, trace, |line, count| {
-                    count >= 8 && line.opcode == Opcode::Lsl
+                run_taking((program, start, budget), state, trace, |line, state| {
+                    with_zero(line, state, |line, count| count >= 8 && line.opcode == Opcode::Lsl)
                 })
             },
             ..RIGHT
@@ -581,8 +934,8 @@ fn variants() -> Vec<Variant> {
         Variant {
             fault: "a shift count of 8 or more gives 0 to the right",
             run: |program, start, budget, state, trace| {
-                run_with_zeros((program, start, budget), state, trace, |line, count| {
-                    count >= 8 && line.opcode == Opcode::Lsr
+                run_taking((program, start, budget), state, trace, |line, state| {
+                    with_zero(line, state, |line, count| count >= 8 && line.opcode == Opcode::Lsr)
                 })
             },
             ..RIGHT
@@ -590,8 +943,8 @@ fn variants() -> Vec<Variant> {
         Variant {
             fault: "a shift count of 8 or more gives 0 in a marked line",
             run: |program, start, budget, state, trace| {
-                run_with_zeros((program, start, budget), state, trace, |line, count| {
-                    count >= 8 && line.marked
+                run_taking((program, start, budget), state, trace, |line, state| {
+                    with_zero(line, state, |line, count| count >= 8 && line.marked)
                 })
             },
             ..RIGHT
@@ -599,8 +952,10 @@ fn variants() -> Vec<Variant> {
         Variant {
             fault: "a shift count of 8 or more gives 0 unless it is a literal",
             run: |program, start, budget, state, trace| {
-                run_with_zeros((program, start, budget), state, trace, |line, count| {
-                    count >= 8 && !matches!(line.second, Some(Operand::Literal(_)))
+                run_taking((program, start, budget), state, trace, |line, state| {
+                    with_zero(line, state, |line, count| {
+                        count >= 8 && !matches!(line.second, Some(Operand::Literal(_)))
+                    })
                 })
             },
             ..RIGHT
@@ -608,7 +963,206 @@ fn variants() -> Vec<Variant> {
         Variant {
             fault: "a shift count is taken modulo 16",
             run: |program, start, budget, state, trace| {
-                run_with_zeros((program, start, budget), state, trace, |_, count| count % 16 >= 8)
+                run_taking((program, start, budget), state, trace, |line, state| {
+                    with_zero(line, state, |_, count| count % 16 >= 8)
+                })
+            },
+            ..RIGHT
+        },
+        Variant {
+            fault: "a public byte whole in a marked line",
+            run: |program, start, budget, state, trace| {
+                run_taking((program, start, budget), state, trace, |line, state| {
+                    reading(line, state, |_, place| whole_if(is_public(place)))
+                })
+            },
+            ..RIGHT
+        },
+        Variant {
+            fault: "a public cell whole in a marked line",
+            run: |program, start, budget, state, trace| {
+                run_taking((program, start, budget), state, trace, |line, state| {
+                    reading(line, state, |_, place| whole_if(matches!(place, Operand::Cell(_))))
+                })
+            },
+            ..RIGHT
+        },
+        Variant {
+            fault: "a public cell behind a base whole in a marked line",
+            run: |program, start, budget, state, trace| {
+                run_taking((program, start, budget), state, trace, |line, state| {
+                    reading(line, state, |_, place| whole_if(matches!(place, Operand::Public { .. })))
+                })
+            },
+            ..RIGHT
+        },
+        Variant {
+            fault: "a public register whole in a marked line",
+            run: |program, start, budget, state, trace| {
+                run_taking((program, start, budget), state, trace, |line, state| {
+                    reading(line, state, |_, place| whole_if(matches!(place, Operand::Register(_))))
+                })
+            },
+            ..RIGHT
+        },
+        Variant {
+            fault: "a public byte whole in a marked shift",
+            run: |program, start, budget, state, trace| {
+                run_taking((program, start, budget), state, trace, |line, state| {
+                    reading(line, state, |line, _| whole_if(matches!(line.opcode, Opcode::Lsl | Opcode::Lsr)))
+                })
+            },
+            ..RIGHT
+        },
+        Variant {
+            fault: "a public byte whole in a marked branch",
+            run: |program, start, budget, state, trace| {
+                run_taking((program, start, budget), state, trace, |line, state| {
+                    reading(line, state, |line, _| whole_if(is_branch(line)))
+                })
+            },
+            ..RIGHT
+        },
+        Variant {
+            fault: "a public byte whole in a marked add or mul",
+            run: |program, start, budget, state, trace| {
+                run_taking((program, start, budget), state, trace, |line, state| {
+                    reading(line, state, |line, _| whole_if(matches!(line.opcode, Opcode::Add | Opcode::Mul)))
+                })
+            },
+            ..RIGHT
+        },
+        Variant {
+            fault: "a public byte whole in a marked not",
+            run: |program, start, budget, state, trace| {
+                run_taking((program, start, budget), state, trace, |line, state| {
+                    reading(line, state, |line, _| whole_if(line.opcode == Opcode::Not))
+                })
+            },
+            ..RIGHT
+        },
+        Variant {
+            fault: "the lowest bit of r0 to r3",
+            run: |program, start, budget, state, trace| {
+                run_taking((program, start, budget), state, trace, |line, state| {
+                    reading(line, state, |line, place| {
+                        lowest_bit_if(line, matches!(place, Operand::Register(0..=3)))
+                    })
+                })
+            },
+            ..RIGHT
+        },
+        Variant {
+            fault: "the lowest bit of a literal",
+            run: |program, start, budget, state, trace| {
+                run_taking((program, start, budget), state, trace, |line, state| {
+                    reading(line, state, |line, place| {
+                        lowest_bit_if(line, matches!(place, Operand::Literal(_)))
+                    })
+                })
+            },
+            ..RIGHT
+        },
+        Variant {
+            fault: "the lowest bit of a sensitive register",
+            run: |program, start, budget, state, trace| {
+                run_taking((program, start, budget), state, trace, |line, state| {
+                    reading(line, state, |line, place| {
+                        lowest_bit_if(line, matches!(place, Operand::Register(16..)))
+                    })
+                })
+            },
+            ..RIGHT
+        },
+        Variant {
+            fault: "the lowest bit of a sensitive cell",
+            run: |program, start, budget, state, trace| {
+                run_taking((program, start, budget), state, trace, |line, state| {
+                    reading(line, state, |line, place| {
+                        lowest_bit_if(line, matches!(place, Operand::Cell(128..=255)))
+                    })
+                })
+            },
+            ..RIGHT
+        },
+        Variant {
+            fault: "the lowest bit of a cell of the table page",
+            run: |program, start, budget, state, trace| {
+                run_taking((program, start, budget), state, trace, |line, state| {
+                    reading(line, state, |line, place| {
+                        lowest_bit_if(line, matches!(place, Operand::Cell(256..)))
+                    })
+                })
+            },
+            ..RIGHT
+        },
+        Variant {
+            fault: "the lowest bit behind %",
+            run: |program, start, budget, state, trace| {
+                run_taking((program, start, budget), state, trace, |line, state| {
+                    reading(line, state, |line, place| {
+                        lowest_bit_if(line, matches!(place, Operand::Sensitive { .. }))
+                    })
+                })
+            },
+            ..RIGHT
+        },
+        Variant {
+            fault: "the lowest bit behind ^",
+            run: |program, start, budget, state, trace| {
+                run_taking((program, start, budget), state, trace, |line, state| {
+                    reading(line, state, |line, place| {
+                        lowest_bit_if(line, matches!(place, Operand::Table { .. }))
+                    })
+                })
+            },
+            ..RIGHT
+        },
+        Variant {
+            fault: "the second argument whole in a marked line",
+            run: |program, start, budget, state, trace| {
+                run_taking((program, start, budget), state, trace, |line, state| {
+                    let whole = reading(line, state, |_, _| Reads::Whole);
+                    Line { second: whole.second, ..*line }
+                })
+            },
+            ..RIGHT
+        },
+        Variant {
+            fault: "the lowest bit of a public place in an unmarked line",
+            run: |program, start, budget, state, trace| {
+                run_taking((program, start, budget), state, trace, |line, state| {
+                    reading(line, state, |_, place| match is_public(place) {
+                        true => Reads::LowestBit,
+                        false => Reads::Right,
+                    })
+                })
+            },
+            ..RIGHT
+        },
+        Variant {
+            fault: "the lowest bit of a base in a marked line",
+            run: |program, start, budget, state, trace| {
+                run_taking((program, start, budget), state, trace, with_lowest_bases)
+            },
+            ..RIGHT
+        },
+        Variant {
+            fault: "the lowest bit of the old value in a marked line",
+            run: |program, start, budget, state, trace| {
+                let changed = |line: &Line, counter, state: &mut [u8]| {
+                    let old = value(true, line.destination, state);
+                    let new = written_value(line, state);
+                    let (next, mut row) = step(line, counter, state);
+                    if line.marked && line.destination.is_some_and(is_public) {
+                        row[2] = (old ^ new).count_ones() as u16;
+                    }
+                    (next, row)
+                };
+                match stored_program(program) {
+                    Ok(lines) => paper::run(&lines, start, budget, state, trace, changed),
+                    Err(answer) => answer,
+                }
             },
             ..RIGHT
         },
@@ -684,8 +1238,68 @@ fn variants() -> Vec<Variant> {
             judge: |program, sets, budget| {
                 changed_walk((program, sets, budget), |line, counter, sets| {
                     step_on_sets_by(line, counter, sets, |line, counter, state| {
-                        step_with_zeros(line, counter, state, |_, count| count >= 8)
+                        step_taking(line, counter, state, |line, state| {
+                            with_zero(line, state, |_, count| count >= 8)
+                        })
                     })
+                })
+            },
+            ..RIGHT
+        },
+        Variant {
+            fault: "a public byte whole in a marked line of a walk",
+            judge: |program, sets, budget| {
+                changed_walk((program, sets, budget), |line, counter, sets| {
+                    step_on_sets_by(line, counter, sets, |line, counter, state| {
+                        step_taking(line, counter, state, |line, state| {
+                            reading(line, state, |_, _| Reads::Whole)
+                        })
+                    })
+                })
+            },
+            ..RIGHT
+        },
+        Variant {
+            fault: "21 looks at the place's values, not at the argument's",
+            judge: |program, sets, budget| {
+                changed_walk((program, sets, budget), |line, counter, sets| {
+                    match walk::undecided(&Line { marked: false, ..*line }, sets) {
+                        true => Err(Stop::Refused(21)),
+                        false => step_on_sets(line, counter, sets),
+                    }
+                })
+            },
+            ..RIGHT
+        },
+        Variant {
+            fault: "21 looks at the lowest bits of any argument in a marked line",
+            judge: |program, sets, budget| {
+                changed_walk((program, sets, budget), |line, counter, sets| {
+                    let alike = |argument: Option<Operand>| match argument {
+                        Some(Operand::Register(register)) => one_lowest_bit(&sets[register as usize]),
+                        _ => false,
+                    };
+                    let taken = line.marked && is_branch(line) && (alike(line.first) || alike(line.second));
+                    match step_on_sets(line, counter, sets) {
+                        Err(Stop::Refused(21)) if taken => Ok(counter + 1),
+                        answer => answer,
+                    }
+                })
+            },
+            ..RIGHT
+        },
+        Variant {
+            fault: "21 looks at a base's lowest bits in a marked line",
+            judge: |program, sets, budget| {
+                changed_walk((program, sets, budget), |line, counter, sets| match line.destination {
+                    Some(
+                        Operand::Public { base: base @ 4..=15, .. }
+                        | Operand::Sensitive { base: base @ 4..=15, .. },
+                    ) if line.marked && one_lowest_bit(&sets[base as usize]) => {
+                        let first = sets[base as usize].first().copied();
+                        with_values((line, counter), sets, base, first.into_iter().collect())
+                    }
+                    _ => step_on_sets(line, counter, sets),
                 })
             },
             ..RIGHT
@@ -698,7 +1312,7 @@ fn variants() -> Vec<Variant> {
                     else {
                         return step_on_sets(line, counter, sets);
                     };
-                    let other = spare(line);
+                    let other = spare(line, register);
                     let line = Line { second: Some(Operand::Register(other)), ..*line };
                     with_values((&line, counter), sets, other, sets[register as usize].clone())
                 })
@@ -714,7 +1328,7 @@ fn variants() -> Vec<Variant> {
                     else {
                         return step_on_sets(line, counter, sets);
                     };
-                    let other = spare(line);
+                    let other = spare(line, register);
                     let line = Line { first: Some(Operand::Register(other)), ..*line };
                     with_values((&line, counter), sets, other, sets[register as usize].clone())
                 })
@@ -973,6 +1587,28 @@ fn variants() -> Vec<Variant> {
             ..RIGHT
         },
     ]
+}
+
+/// What the faults are made with brings none of its own.
+#[test]
+fn no_fault_but_the_named_ones() {
+    let right = Variant {
+        expand: |program, out| expanded_by(program, out, part),
+        run: |program, start, budget, state, trace| {
+            run_taking((program, start, budget), state, trace, |line, state| {
+                reading(line, state, |_, _| Reads::Right)
+            })
+        },
+        judge: |program, sets, budget| {
+            changed_walk((program, sets, budget), |line, counter, sets| {
+                step_on_sets_by(line, counter, sets, |line, counter, state| {
+                    step_taking(line, counter, state, |line, state| reading(line, state, |_, _| Reads::Right))
+                })
+            })
+        },
+        ..RIGHT
+    };
+    compare(&right, 2, 1, 2_000).unwrap_or_else(|report| panic!("{report}"));
 }
 
 #[test]

@@ -1,4 +1,4 @@
-//! The edges and examples that the paper prints, and a few for the walk.
+//! The edges and examples that the papers print, and a few for the walk.
 
 use dualrail::paper::walk::SET;
 use dualrail::paper::{Paper, ROW, SIX, STATE};
@@ -78,9 +78,15 @@ fn mark_check() {
         assert_eq!(judged(on, "u,mov,r4,!r3+0,,\n"), refused(10, 0));
         assert_eq!(judged(on, "u,mov,r16,r4,,\n"), refused(11, 0));
         assert_eq!(judged(on, "u,mov,r4,!r16+0,,\n"), refused(12, 0));
-        assert_eq!(judged(on, "s,mov,r16,r4,,\n"), refused(13, 0));
         assert_eq!(judged(on, "s,nop,,,,\n"), refused(14, 0));
-        assert_eq!(judged(on, "s,beq,,r4,#0,0\n"), refused(13, 0));
+        // Request 03: no 13, so that the next condition shows.
+        assert_eq!(judged(on, "s,mov,r16,r4,,\ns,not,@128,@127,,\ns,and,%r4+0,!r4+0,#1,\n"), Counted(3));
+        assert_eq!(judged(on, "s,beq,,r4,#0,0\n"), refused(14, 0));
+        assert_eq!(judged(on, "s,lsl,r16,r16,r4,\n"), refused(14, 0));
+        assert_eq!(judged(on, "s,xor,r16,r4,#2,\n"), refused(15, 0));
+        assert_eq!(judged(on, "s,mov,r16,r3,,\n"), refused(10, 0));
+        assert_eq!(judged(on, "s,mov,r5,r4,,\n"), refused(11, 0));
+        assert_eq!(judged(on, "s,mov,r16,!r16+0,,\n"), refused(12, 0));
     });
 }
 
@@ -113,6 +119,225 @@ fn machine() {
         let mut trace = [0; ROW];
         on.run(&stored(on, "u,add,%r4+127,@261,#251,\n"), 0, 1, &mut state, &mut trace);
         assert_eq!((state[32 + 128], trace), (2, [0, 1, 2, 3, 0, 1]));
+    });
+}
+
+/// Request 03: lines and targets go to 32,768.
+#[test]
+fn limits() {
+    each(|on| {
+        let mut store = vec![0; SIX * 32_770];
+        let text = b"u,nop,,,,\n".repeat(32_769);
+        assert_eq!(on.read(&text[10..], &mut store), Counted(32_768));
+        assert_eq!(on.read(&text, &mut store), refused(7, 32_768));
+        assert_eq!(on.read(&text, &mut store[..SIX * 32_768]), refused(7, 32_768));
+        assert_eq!(on.read(&text, &mut store[..SIX * 32_768 - 1]), refused(8, 32_767));
+        store.fill(0);
+        let mut out = vec![0; text.len()];
+        assert_eq!(on.write(&store[..SIX * 32_768], &mut out), Counted(327_680));
+        assert_eq!(on.write(&store[..SIX * 32_769], &mut out), refused(7, 32_768));
+        assert_eq!(on.check(&store[..SIX * 32_768]), refused(9, 0));
+        assert_eq!(on.check(&store[..SIX * 32_769]), refused(7, 32_768));
+        let mut state = [0; STATE];
+        let run = |program: &[u16], state: &mut [u8]| on.run(program, 32_767, 1, state, &mut [0; ROW]);
+        assert_eq!(run(&store[..SIX * 32_768], &mut state), Halted { counter: 32_768, steps: 1 });
+        assert_eq!(run(&store[..SIX * 32_769], &mut state), refused(7, 32_768));
+        // A target above 16,384 is right, and the mark check's to refuse.
+        for target in [16_385, 32_768] {
+            let text = format!("u,jmp,,,,{target}\n");
+            assert_eq!(judged(on, &text), refused(16, 0));
+            let jump = stored(on, &text);
+            assert_eq!(jump, [0, 1, 0, 0, 0, 1 + target]);
+            let mut row = [9; ROW];
+            assert_eq!(on.run(&jump, 0, 1, &mut state, &mut row), Halted { counter: target, steps: 1 });
+            assert_eq!(row, [0; ROW]);
+        }
+        assert_eq!(judged(on, "u,jmp,,,,32769\n"), refused(6, 0));
+        assert_eq!(on.check(&[0, 1, 0, 0, 0, 1 + 32_769]), refused(6, 0));
+    });
+}
+
+/// The value of r16 and the row after one step; before it all places are 0 but for these.
+fn step_from(on: &dyn Dualrail, line: &str, places: &[(usize, u8)]) -> (u8, [u16; ROW]) {
+    let mut state = [0; STATE];
+    for &(place, value) in places {
+        state[place] = value;
+    }
+    let mut row = [0; ROW];
+    on.run(&stored(on, line), 0, 1, &mut state, &mut row);
+    (state[16], row)
+}
+
+/// Request 03: a public place as argument of a marked line means its lowest bit.
+#[test]
+fn public_bits() {
+    each(|on| {
+        let value = |line: &str, places: &[(usize, u8)]| step_from(on, line, places).0;
+        // Public places and no others, however they are reached.
+        for (operand, place) in
+            [("r4", 4), ("r15", 15), ("@0", 32), ("@127", 159), ("!r0+0", 32), ("!r0+127", 159)]
+        {
+            let (marked, unmarked) = (format!("s,mov,r16,{operand},,\n"), format!("u,mov,r16,{operand},,\n"));
+            assert_eq!((value(&marked, &[(place, 7)]), value(&marked, &[(place, 254)])), (1, 0));
+            assert_eq!(value(&unmarked, &[(place, 254)]), 254);
+        }
+        for (operand, place) in [
+            ("r0", 0),
+            ("r3", 3),
+            ("r16", 16),
+            ("r31", 31),
+            ("@128", 160),
+            ("@255", 287),
+            ("@256", 288),
+            ("@511", 543),
+            ("%r4+0", 160),
+            ("^r4+0", 288),
+        ] {
+            assert_eq!(value(&format!("s,mov,r16,{operand},,\n"), &[(place, 254)]), 254, "{operand}");
+        }
+        // Under every opcode, in both arguments.
+        for (line, result) in [
+            ("s,not,r16,r4,,\n", 0),
+            ("s,and,r16,r4,#255,\n", 1),
+            ("s,orr,r16,#6,r4,\n", 7),
+            ("s,xor,r16,r4,r5,\n", 1),
+            ("s,lsl,r16,#6,r4,\n", 12),
+            ("s,lsl,r16,r4,#3,\n", 8),
+            ("s,lsr,r16,#6,r4,\n", 3),
+            ("s,add,r16,r4,r4,\n", 2),
+            ("s,mul,r16,r4,#9,\n", 9),
+        ] {
+            assert_eq!(value(line, &[(4, 255), (5, 254)]), result, "{line}");
+        }
+        assert_eq!(value("s,lsl,r16,r16,r4,\n", &[(4, 3), (16, 5)]), 10);
+        // A base is no argument; nor are literals and old values touched.
+        assert_eq!(value("s,mov,r16,!r4+0,,\n", &[(4, 2), (32 + 2, 255)]), 1);
+        assert_eq!(value("s,mov,r16,%r4+0,,\n", &[(4, 2), (160 + 2, 2)]), 2);
+        assert_eq!(value("s,mov,r16,#6,,\n", &[]), 6);
+        assert_eq!(step_from(on, "s,mov,r5,r4,,\n", &[(4, 3), (5, 254)]).1, [0, 1, 8, 0, 0, 0]);
+        // Branches too: never equal to 3.
+        let mut state = [0; STATE];
+        state[4] = 3;
+        for (line, counter) in [
+            ("s,beq,,r4,#3,5\n", 1),
+            ("s,beq,,r4,#1,5\n", 5),
+            ("s,bne,,#1,r4,5\n", 1),
+            ("u,beq,,r4,#3,5\n", 5),
+        ] {
+            let answer = on.run(&stored(on, line), 0, 1, &mut state, &mut [0; ROW]);
+            assert_eq!(answer, Halted { counter, steps: 1 }, "{line}");
+        }
+    });
+}
+
+/// The expansion as text.
+fn expanded(on: &dyn Dualrail, text: &str) -> String {
+    let mut expansion = [0; SIX * 100];
+    let Counted(lines) = on.expand(&stored(on, text), &mut expansion) else { panic!("{text}") };
+    let mut out = [0; 4_096];
+    let Counted(size) = on.write(&expansion[..SIX * lines as usize], &mut out) else { panic!("{text}") };
+    String::from_utf8_lossy(&out[..size as usize]).into_owned()
+}
+
+/// Request 03: a public place is loaded by three lines, anything else by one as before.
+#[test]
+fn loads() {
+    each(|on| {
+        let same = |text: &str, lines: &[&str]| {
+            let wanted: String = lines.iter().map(|line| format!("s,{line}\n")).collect();
+            assert_eq!(expanded(on, text), wanted);
+        };
+        same(
+            "s,xor,r16,r16,r4,\n",
+            &[
+                "mov,r1,r0,,",
+                "mov,r1,r16,,",
+                "and,r1,r1,#3,",
+                "lsl,r1,r1,#1,",
+                "lsl,r1,r1,#1,",
+                "mov,r2,r0,,",
+                "mov,r2,r4,,",
+                "and,r2,r2,#1,",
+                "mov,r2,^r2+240,,",
+                "and,r2,r2,#3,",
+                "orr,r1,r1,r2,",
+                "mov,r3,r0,,",
+                "mov,r3,^r1+32,,",
+                "mov,r16,r0,,",
+                "mov,r16,r3,,",
+            ],
+        );
+        same(
+            "s,and,%r5+1,@127,!r4+3,\n",
+            &[
+                "mov,r1,r0,,",
+                "mov,r1,@127,,",
+                "and,r1,r1,#1,",
+                "mov,r1,^r1+240,,",
+                "and,r1,r1,#3,",
+                "lsl,r1,r1,#1,",
+                "lsl,r1,r1,#1,",
+                "mov,r2,r0,,",
+                "mov,r2,!r4+3,,",
+                "and,r2,r2,#1,",
+                "mov,r2,^r2+240,,",
+                "and,r2,r2,#3,",
+                "orr,r1,r1,r2,",
+                "mov,r3,r0,,",
+                "mov,r3,^r1+0,,",
+                "mov,%r5+1,r0,,",
+                "mov,%r5+1,r3,,",
+            ],
+        );
+        same(
+            "s,orr,@200,r31,#0,\n",
+            &[
+                "mov,r1,r0,,",
+                "mov,r1,r31,,",
+                "and,r1,r1,#3,",
+                "lsl,r1,r1,#1,",
+                "lsl,r1,r1,#1,",
+                "mov,r2,r0,,",
+                "mov,r2,#2,,",
+                "and,r2,r2,#3,",
+                "orr,r1,r1,r2,",
+                "mov,r3,r0,,",
+                "mov,r3,^r1+16,,",
+                "mov,@200,r0,,",
+                "mov,@200,r3,,",
+            ],
+        );
+        same(
+            "s,not,r16,r15,,\n",
+            &[
+                "mov,r1,r0,,",
+                "mov,r1,r15,,",
+                "and,r1,r1,#1,",
+                "mov,r1,^r1+240,,",
+                "xor,r1,r1,#3,",
+                "mov,r16,r0,,",
+                "mov,r16,r1,,",
+            ],
+        );
+        same(
+            "s,mov,r16,@0,,\n",
+            &[
+                "mov,r3,r0,,",
+                "mov,r3,@0,,",
+                "and,r3,r3,#1,",
+                "mov,r3,^r3+240,,",
+                "mov,r16,r0,,",
+                "mov,r16,r3,,",
+            ],
+        );
+        same("s,mov,r16,@128,,\n", &["mov,r3,r0,,", "mov,r3,@128,,", "mov,r16,r0,,", "mov,r16,r3,,"]);
+        // Targets follow the longer parts.
+        let jumps = expanded(on, "u,jmp,,,,2\ns,xor,r16,r4,r5,\nu,jmp,,,,0\n");
+        assert!(jumps.starts_with("u,jmp,,,,18\n") && jumps.ends_with("u,jmp,,,,0\n"), "{jumps}");
+        let longest = stored(on, &"s,xor,r16,r4,r5,\n".repeat(1_024));
+        let mut expansion = vec![0; SIX * 17 * 1_024];
+        assert_eq!(on.expand(&longest, &mut expansion[1..]), refused(17, 0));
+        assert_eq!(on.expand(&longest, &mut expansion), Counted(17_408));
     });
 }
 
@@ -158,6 +383,23 @@ fn walk() {
         assert_eq!(verdict(on, "u,mov,!r5+0,#0,,\n", &[(5, &[0, 128])]), refused(21, 0));
         assert_eq!(verdict(on, "u,nop,,,,\nu,beq,,r5,r5,0\n", &[(5, &[0, 1])]), refused(21, 1));
         assert_eq!(verdict(on, "u,beq,,r5,#7,0\n", &[(5, &[7, 7])]), Spent { counter: 0, steps: 9 });
+        // Request 03: the lowest bits of a public place in a marked line, for 21 too; a base is read whole.
+        assert_eq!(verdict(on, "s,mov,r16,r5,,\n", &[(5, &[2, 6])]), balanced(1));
+        assert_eq!(verdict(on, "u,mov,r16,r5,,\n", &[(5, &[2, 6])]), Leak { line: 0, steps: 0 });
+        assert_eq!(verdict(on, "s,mov,r16,r5,,\n", &[(5, &[2, 3])]), Leak { line: 0, steps: 0 });
+        assert_eq!(verdict(on, "s,mov,r5,r5,,\n", &[(5, &[2, 6])]), Leak { line: 0, steps: 0 });
+        assert_eq!(verdict(on, "s,mov,r16,^r5+0,,\n", &[(5, &[0, 1])]), Leak { line: 0, steps: 0 });
+        assert_eq!(verdict(on, "s,bne,,r5,#0,0\n", &[(5, &[0, 2])]), balanced(1));
+        assert_eq!(verdict(on, "s,bne,,@3,#0,0\n", &[(32 + 3, &[1, 3])]), Spent { counter: 0, steps: 9 });
+        assert_eq!(verdict(on, "s,beq,,!r4+3,#9,0\n", &[(32 + 3, &[1, 3])]), balanced(1));
+        assert_eq!(verdict(on, "s,bne,,r5,#0,0\n", &[(5, &[0, 1])]), refused(21, 0));
+        assert_eq!(verdict(on, "u,bne,,r5,#0,0\n", &[(5, &[0, 2])]), refused(21, 0));
+        assert_eq!(verdict(on, "s,bne,,r16,#0,0\n", &[(16, &[0, 2])]), refused(21, 0));
+        assert_eq!(verdict(on, "s,bne,,r3,#0,0\n", &[(3, &[0, 2])]), refused(21, 0));
+        assert_eq!(verdict(on, "s,bne,,!r5+0,#0,0\n", &[(5, &[0, 2])]), refused(21, 0));
+        assert_eq!(verdict(on, "s,mov,!r5+0,#0,,\n", &[(5, &[0, 2])]), refused(21, 0));
+        let all: Vec<u8> = (0..16).collect();
+        assert_eq!(verdict(on, "s,add,r16,r4,r5,\n", &[(4, &all), (5, &all)]), Leak { line: 0, steps: 0 });
         // 22 from 17 results on, before the leak and after 21.
         let many: Vec<u8> = (0..16).collect();
         assert_eq!(verdict(on, "u,orr,r4,r5,r6,\n", &[(5, &many), (6, &[0, 8])]), Leak { line: 0, steps: 0 });
@@ -205,7 +447,16 @@ fn tables() {
         on.to_image(&[0; STATE], &mut image);
         let page = &image[32 + 256..];
         assert_eq!((page[5], page[6], page[16 + 9], page[32 + 5], page[32]), (1, 2, 1, 2, 0));
-        assert_eq!(page.iter().filter(|&&entry| entry != 0).count(), 12);
+        // Request 03: cells 496 and 497.
+        assert_eq!((page[240], page[241]), (2, 1));
+        assert_eq!(page.iter().filter(|&&entry| entry != 0).count(), 14);
         assert_eq!((image[0], image[16], image[32 + 255], image[32 + 127]), (0, 2, 2, 0));
+        let mut bits = [0; STATE];
+        assert_eq!(on.from_image(&image, &mut bits), Counted(544));
+        // An image of before it is one no more.
+        for cells in [[0, 0], [2, 0], [0, 1], [1, 2], [2, 2], [1, 1]] {
+            image[32 + 496..=32 + 497].copy_from_slice(&cells);
+            assert_eq!(on.from_image(&image, &mut bits), refused(19, 0), "{cells:?}");
+        }
     });
 }

@@ -36,14 +36,9 @@ fn published_ciphertext() {
         let programs = programs(on);
         let (ciphertext, source_trace, trace) = both(on, &programs, KEY, PLAINTEXT);
         assert_eq!(ciphertext, CIPHERTEXT);
-        println!(
-            "{} bytes, {} lines, {} steps; expansion {} lines, {} steps",
-            TEXT.len(),
-            programs.0.len() / SIX,
-            source_trace.len() / ROW,
-            programs.1.len() / SIX,
-            trace.len() / ROW
-        );
+        // As examples/README.md says.
+        assert_eq!((TEXT.len(), programs.0.len() / SIX, source_trace.len() / ROW), (1_067, 59, 16_447));
+        assert_eq!((programs.1.len() / SIX, trace.len() / ROW), (177, 64_823));
     }
 }
 

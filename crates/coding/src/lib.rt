@@ -33,7 +33,7 @@ pub const OPCODES: u16 = 13;
 
 pub const OPERANDS: u16 = 17185;
 
-pub const TARGETS: u16 = 16386;
+pub const TARGETS: u16 = 32770;
 
 // Where the numbers of each form of operand begin.
 pub const LITERALS: u16 = 1;
@@ -357,7 +357,7 @@ fn fault_at(program: &[u16], i: usize) -> u8
     fault_of(n[0], n[1], n[2], n[3], n[4], n[5])
 }
 
-// The line count of a stored program; else 7 at line 16,384, or the fault of the lowest line whose numbers are no line.
+// The line count of a stored program; else 7 at line 32,768, or the fault of the lowest line whose numbers are no line.
 pub fn check_program(program: &[u16]) -> Answer
     ensures { λ r. ⌜ report r ≡ programCheck (now (program .entry)) ⌝ }
 {
@@ -437,6 +437,9 @@ pub fn neighbours() -> Layout
         xor: 32,
     }
 }
+
+// Where the codes of 0 and 1 stand in the table page, counted from cell 256.
+pub const CODE_TABLE: u8 = 240;
 
 // The code of a bit.
 pub fn code_of(layout: Layout, bit: u8) -> u8

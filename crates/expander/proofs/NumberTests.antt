@@ -10,8 +10,10 @@ use Rattle.model.proofs.Forms.{by-form, low-form}
 use Rattle.model.proofs.TestLaws.{below}
 use Rattle.model.specs.declared.Mark.the-variants.{Unmarked, Marked}
 use Rattle.model.specs.Stored.{registers, publics, markOf, operandOf, targetOf}
+use Rattle.model.specs.declared.Kind.{Kind}
 use Rattle.model.specs.declared.Kind.the-variants.{Neither}
-use Rattle.model.specs.Places.{kindOf}
+use Rattle.model.specs.declared.Operand.{Operand}
+use Rattle.model.specs.Places.{kindOf, isPublic}
 use Rattle.model.specs.Marks.{isReserved, hasSensitiveBase, isNoBit, isAbove, isMarked}
 
 marked-by : (x : Bool) → not x ≡ isMarked (cond x Unmarked Marked)
@@ -52,3 +54,7 @@ module _ (n : ℕ) where
   high-bit h =
       by-form n (λ o. isNoBit o ≡ false) (λ l. absurd (omega arith)) (λ g l. absurd (omega arith)) (λ g l. refl) (λ g l. refl)
       (λ g l. refl) (λ g l. refl) (λ g. refl)
+
+-- whether an operand names public places, by the tests of its kind
+pub public-told : {k : Kind} {b c : Bool} (o : Operand) → k ≡ kindOf o → b ≡ isPublic k → b ≡ c → isPublic (kindOf o) ≡ c
+public-told o ek eb e = cc

@@ -11,22 +11,25 @@ use Rattle.model.specs.declared.Mark.the-variants.{Unmarked}
 use Rattle.model.specs.declared.Opcode.{Opcode}
 use Rattle.model.specs.declared.Opcode.the-variants.{Nop, Jmp, Not, Mov, And, Orr, Xor, Lsl, Lsr, Add, Mul, Beq, Bne}
 use Rattle.model.specs.declared.Operand.{Operand}
-use Rattle.model.specs.declared.Operand.the-variants.{Literal, TableCell}
+use Rattle.model.specs.declared.Operand.the-variants.{Literal, Register, TableCell}
 use Rattle.model.specs.Stored.{literals, registers, opcodeOf, operandOf, targetOf, lineAt}
-use Rattle.model.specs.Expansion.{coded, markedLine, move, precharged, load, shifts, scale, combine, fetch, flip, writeBack, lookup, macro, newTarget, part}
+use Rattle.model.specs.Places.{isPublic, kindOf}
+use Rattle.model.specs.Code.{codeTable}
+use Rattle.model.specs.Expansion.{coded, markedLine, move, precharged, codeBit, load, shifts, scale, combine, fetch, flip, writeBack, lookup, macro, newTarget, part}
 use Rattle.coding.specs.Fields.{numbersAt}
 use Rattle.expander.specs.Opcodes.{hasTable, tableOf, unary}
 use Rattle.expander.specs.Writes.{lineWith, Wrote}
 use Rattle.expander.proofs.StoreWrites.{wrote-none, wrote-then}
 use Rattle.expander.proofs.PartSizes.{plain-part, marked-is}
-use Rattle.expander.proofs.PartNumbers.{register-number, unmarked}
+use Rattle.expander.proofs.PartNumbers.{register-number, literal-number, unmarked}
 
 -- ---- the pieces
 
 module _ {out o : List ℕ} {at k : ℕ} where
-  pub load-wrote : (n : ℕ) (a : Operand) → n < 32 → Wrote out o at k (precharged (operandOf (registers + n)) a) → Wrote out o at k (load n a)
-  unfolding load
-  load-wrote n a g w = rw (← register-number n g) w
+  -- an argument that is no public place
+  pub load-wrote : (n : ℕ) (a : Operand) → n < 32 → isPublic (kindOf a) ≡ false → Wrote out o at k (precharged (operandOf (registers + n)) a) → Wrote out o at k (load n a)
+  unfolding load codeBit
+  load-wrote n a g e w = rw (e, ← register-number n g) w
 
   pub write-back-wrote : (n : ℕ) (d : Operand) → n < 32 → Wrote out o at k (precharged d (operandOf (registers + n))) → Wrote out o at k (writeBack n d)
   unfolding writeBack
@@ -43,6 +46,18 @@ module _ {out o : List ℕ} {at k : ℕ} where
 module _ {out o o′ : List ℕ} {at k m : ℕ} where
   pub precharged-wrote : (d a : Operand) → Wrote out o at k (move d (operandOf registers) ∷ []) → Wrote o o′ k m (move d a ∷ []) → Wrote out o′ at m (precharged d a)
   precharged-wrote d a w v = rw (← register-number 0 (omega arith)) (wrote-then w v)
+
+  -- a public place's bit, coded
+  pub code-bit-wrote : (n : ℕ) (x : Operand) → n < 32 → x ≡ TableCell n codeTable
+      → Wrote out o at k (markedLine And (operandOf (registers + n)) (operandOf (registers + n)) (operandOf (literals + 1)) ∷ [])
+      → Wrote o o′ k m (move (operandOf (registers + n)) x ∷ []) → Wrote out o′ at m (codeBit true n)
+  unfolding codeBit
+  code-bit-wrote n x g e w v = rw (← e, ← register-number n g, ← literal-number 1 (omega arith)) (wrote-then w v)
+
+  pub load-bit-wrote : (n : ℕ) (a : Operand) → n < 32 → isPublic (kindOf a) ≡ true → Wrote out o at k (precharged (operandOf (registers + n)) a)
+      → Wrote o o′ k m (codeBit true n) → Wrote out o′ at m (load n a)
+  unfolding load
+  load-bit-wrote n a g e w v = let u : Wrote out o at k (precharged (Register n) a) = rw (← register-number n g) w in rw e (wrote-then u v)
 
   module _ (L : Layout) (x : Operand) (e : x ≡ Literal (L .mask)) where
     pub combine-wrote : Wrote out o at k (markedLine And (operandOf (registers + 2)) (operandOf (registers + 2)) x ∷ [])

@@ -1,15 +1,17 @@
 // The lines that a line becomes, written into a lent store as stored numbers: a line, the pieces of the macros, the macros; and how
 // long a part is. Each `put_..` writes from line `at` on and hands back the line past its last, where the next goes on.
 ghost use mathlib.Core.Path.{_≡_};
+ghost use mathlib.Core.Bool.{true};
 ghost use mathlib.Core.List.{[], _∷_};
 ghost use Prim.Native.Nat.{ℕ, _+_, _*_, _%_, _≤_, _<_};
 ghost use lib.ListN.{length};
 ghost use Rattle.model.specs.declared.Operand.{Operand};
 ghost use Rattle.model.specs.declared.Target.{Target};
 ghost use Rattle.model.specs.Stored.{targetCode, operandOf, lineAt};
-ghost use Rattle.model.specs.Expansion.{coded, markedLine, move, precharged, load, scale, combine, fetch, flip, writeBack, lookup, negate, copy, macro, size};
+ghost use Rattle.model.specs.Expansion.{coded, markedLine, move, precharged, codeBit, load, scale, combine, fetch, flip, writeBack, lookup, negate, copy, macro, size};
 ghost use Rattle.expander.specs.Opcodes.{hasTable, tableOf, unary};
 ghost use Rattle.expander.specs.Writes.{lineWith, Wrote};
+use super::marks::kind_of;
 use model::LINE_WIDTH;
 use model::Layout;
 use model::Mark;
@@ -108,12 +110,26 @@ fn put_precharged(out: &mut [u16], at: usize, d: u16, a: u16) -> usize
     put_move(out, cleared, d, a)
 }
 
-// Register n precharged and loaded.
+// A public place's byte in register n: its lowest bit, and the code of that.
+fn put_code_bit(out: &mut [u16], at: usize, n: u16) -> usize
+    requires { ⌜ (n < 32) × (6 * (at + 2) ≤ length (now out)) ⌝ }
+    ensures { λ r. ⌜ Wrote (now (out .entry)) (now (out .exit)) at r (codeBit true n) ⌝ }
+{
+    let register = R0 + n;
+    let masked = put_marked(out, at, Opcode::And, register, register, ONE);
+    put_move(out, masked, register, table_cell(n, coding::CODE_TABLE))
+}
+
+// Register n precharged and loaded; the bit of a public place is coded there.
 fn put_load(out: &mut [u16], at: usize, n: u16, a: u16) -> usize
     requires { ⌜ (n < 32) × (6 * (at + length (load n (operandOf a))) ≤ length (now out)) ⌝ }
     ensures { λ r. ⌜ Wrote (now (out .entry)) (now (out .exit)) at r (load n (operandOf a)) ⌝ }
 {
-    put_precharged(out, at, R0 + n, a)
+    let loaded = put_precharged(out, at, R0 + n, a);
+    if coding::is_public(kind_of(a)) {
+        return put_code_bit(out, loaded, n);
+    }
+    loaded
 }
 
 // The first code masked, and shifted to its place in the index.
@@ -282,11 +298,11 @@ pub fn put_macro(
 
 // ---- how long a part is
 
-// The lines that load an argument: two, whatever it is.
+// The lines that load an argument: two more where a public place's bit is coded.
 fn load_size(a: u16) -> u16
     ensures { λ r. ⌜ ((n : ℕ) → r ≡ length (load n (operandOf a))) ⌝ }
 {
-    2
+    if coding::is_public(kind_of(a)) { 4 } else { 2 }
 }
 
 // The lines that mask the first code and shift it.

@@ -1,11 +1,11 @@
-// Conditions 10 to 16 of a line, and the mark check of a program whose numbers are lines. The tests are made on the stored numbers
+// Conditions 10 to 16 of a line, of which 13 no longer occurs, and the mark check of a program whose numbers are lines. The tests are made on the stored numbers
 // themselves, by the ranges that decode them; no line is made.
 ghost use mathlib.Core.Path.{_≡_};
 ghost use Rattle.model.specs.Answers.{report};
 ghost use Rattle.model.specs.Places.{kindOf};
 ghost use Rattle.model.specs.Stored.{markOf, operandOf, targetOf, lineOf, lineAt, lines};
 ghost use Rattle.model.specs.Marks.{isReserved, hasSensitiveBase, isNoBit, hasMacro, isAbove, isMarked, readsSensitive};
-ghost use Rattle.model.specs.Marks.{holds10, holds11, holds12, holds13, holds14, holds15, holds16, markFault, marksOf};
+ghost use Rattle.model.specs.Marks.{holds10, holds11, holds12, holds14, holds15, holds16, markFault, marksOf};
 use coding::CELLS;
 use coding::LITERALS;
 use coding::PUBLICS;
@@ -27,7 +27,7 @@ fn is_marked(m: u16) -> bool
 }
 
 // The kind of the places that an operand names.
-fn kind_of(code: u16) -> Kind
+pub fn kind_of(code: u16) -> Kind
     ensures { λ r. ⌜ r ≡ kindOf (operandOf code) ⌝ }
 {
     if code < REGISTERS {
@@ -177,18 +177,6 @@ fn holds12(m: u16, d: u16, a: u16, b: u16) -> bool
     has_sensitive_base(b)
 }
 
-fn holds13(m: u16, a: u16, b: u16) -> bool
-    ensures { λ r. ⌜ r ≡ holds13 (lineOf m 0 0 a b 0) ⌝ }
-{
-    if is_marked(m) {
-        if coding::is_public(kind_of(a)) {
-            return true;
-        }
-        return coding::is_public(kind_of(b));
-    }
-    false
-}
-
 fn holds14(m: u16, o: u16) -> bool
     ensures { λ r. ⌜ r ≡ holds14 (lineOf m o 0 0 0 0) ⌝ }
 {
@@ -228,9 +216,6 @@ fn mark_fault(count: u16, m: u16, o: u16, d: u16, a: u16, b: u16, t: u16) -> u8
     }
     if holds12(m, d, a, b) {
         return 12;
-    }
-    if holds13(m, a, b) {
-        return 13;
     }
     if holds14(m, o) {
         return 14;

@@ -1,18 +1,18 @@
--- The three tables of codes, against the rule of their entries: one test for each whole table.
+-- The three tables of codes, against the rule of their entries: one test for each whole table; and the page past them.
 -- Assumes nothing.
-use mathlib.Core.Path.{_≡_, subst, ap, _∙_}
+use mathlib.Core.Path.{_≡_, sym, subst, ap, _∙_}
 use mathlib.Core.List.{List, [], _∷_}
 use mathlib.Core.Bool.{Bool, true, false, cond}
 use Prim.Native.Nat.{ℕ, _+_, _-_, _≤_, _<_}
 use native.Mathlib.Nat.{zero-add}
 use native.Mathlib.Omega.{arith}
-use borrow.Author.Tests.{lt-ltb, le-ltb}
+use borrow.Author.Tests.{eq-eqb, ne-eqb, lt-ltb, le-ltb}
 use lib.Dec.{T, eqb, ltb, eqb→eq}
 use lib.ListN.{length, getD}
 use Rattle.model.specs.declared.Layout.{Layout}
 use Rattle.model.specs.Layouts.{Known}
 use Rattle.model.specs.Step.{alu}
-use Rattle.model.specs.Code.{code, entry, page}
+use Rattle.model.specs.Code.{code, codeTable, entry, page}
 use Rattle.model.specs.declared.Opcode.{Opcode}
 use Rattle.model.specs.declared.Opcode.the-variants.{And, Orr, Xor}
 use Rattle.model.specs.Images.{fixed, fixedRight, every}
@@ -62,9 +62,20 @@ module _ (L : Layout) (K : Known L) where
       rw (le-ltb i (L .orr) (omega (arith, orr-start, xor-start)), le-ltb i (L .xor) g, lt-ltb i (L .xor + L .orr) h)
       (holds Xor xor-table tt (i - L .xor) (omega (arith, orr-start)))
 
-  pub rest-page : (i : ℕ) → L .xor + L .orr ≤ i → 0 ≡ page L i
-  unfolding page
-  rest-page i g = rw (le-ltb i (L .orr) (omega arith), le-ltb i (L .xor) (omega arith), le-ltb i (L .xor + L .orr) g)
+  -- past the tables
+  module _ (i : ℕ) (g : L .xor + L .orr ≤ i) where
+    past-page : page L i ≡ cond (eqb i codeTable) (L .zero) (cond (eqb i (codeTable + 1)) (L .one) 0)
+    unfolding page code
+    past-page = rw (le-ltb i (L .orr) (omega arith), le-ltb i (L .xor) (omega arith), le-ltb i (L .xor + L .orr) g)
+
+    pub zero-page : i ≡ codeTable → L .zero ≡ page L i
+    zero-page e = sym (past-page ∙ rw (eq-eqb i codeTable e))
+
+    pub one-page : (i ≡ codeTable → ⊥) → i ≡ codeTable + 1 → L .one ≡ page L i
+    one-page n e = sym (past-page ∙ rw (ne-eqb i codeTable n, eq-eqb i (codeTable + 1) e))
+
+    pub rest-page : (i ≡ codeTable → ⊥) → (i ≡ codeTable + 1 → ⊥) → 0 ≡ page L i
+    rest-page n m = sym (past-page ∙ rw (ne-eqb i codeTable n, ne-eqb i (codeTable + 1) m))
 
   -- below the table page nothing but 0 is fixed
   pub low-fixed : (i : ℕ) → i < 288 → 0 ≡ fixed L i

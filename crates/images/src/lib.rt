@@ -22,7 +22,10 @@ const ORR: [u8; 16] = [0, 0, 0, 0, 0, 1, 1, 0, 0, 1, 2, 0, 0, 0, 0, 0];
 
 const XOR: [u8; 16] = [0, 0, 0, 0, 0, 2, 1, 0, 0, 1, 2, 0, 0, 0, 0, 0];
 
-// The table page at i, counted from cell 256.
+// Where the codes of 0 and 1 stand.
+const CODES: usize = coding::CODE_TABLE as usize;
+
+// The table page at i, counted from cell 256: the three tables, and the two codes by which a public bit is coded.
 fn page_at(layout: Layout, i: usize) -> u8
     requires { ⌜ Known layout ⌝ }
     ensures { λ r. ⌜ r ≡ page layout i ⌝ }
@@ -37,6 +40,12 @@ fn page_at(layout: Layout, i: usize) -> u8
     }
     if i < xor + orr {
         return XOR[i - xor];
+    }
+    if i == CODES {
+        return layout.zero;
+    }
+    if i == CODES + 1 {
+        return layout.one;
     }
     0
 }

@@ -12,9 +12,9 @@ use Rattle.model.specs.declared.Opcode.the-variants.{Nop, Jmp, Not, Mov, And, O
 use Rattle.model.specs.declared.Operand.{Operand}
 use Rattle.model.specs.Limits.{rowWidth}
 use Rattle.model.specs.Answers.{halted, spent, Outcome, outcome}
-use Rattle.model.specs.Places.{State, address, place, value}
+use Rattle.model.specs.Places.{State, kind, address, place, value}
 use Rattle.model.specs.Stored.{lineAt}
-use Rattle.model.specs.Step.{weight, distance, Row, result, next, after, row}
+use Rattle.model.specs.Step.{weight, distance, meaning, Row, result, next, after, row}
 use Rattle.machine.specs.declared.Arguments.{Arguments}
 use Rattle.machine.specs.declared.Effect.{Effect}
 use Rattle.machine.specs.declared.Fetched.{Fetched}
@@ -33,9 +33,9 @@ placeOf o s = record { at = place o s; weight = weight (address o s) }
 abbrev pub fetchOf : Operand → State → Fetched
 fetchOf o s = record { at = place o s; value = value o s; weight = weight (address o s) }
 
--- what a line of that mark reads of a byte at place i: the byte itself; neither the mark nor the place changes it
+-- what a line of that mark reads of a byte at place i, by the kind of the place
 abbrev pub readAs : Mark → ℕ → ℕ → ℕ
-readAs m i x = x
+readAs m i x = meaning m (kind i) x
 
 -- the arguments of a line of that mark, of what was fetched
 abbrev pub argumentsOf : Mark → Fetched → Fetched → Arguments

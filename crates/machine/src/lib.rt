@@ -9,8 +9,8 @@ ghost use lib.ListN.{length, getD, set};
 ghost use Rattle.model.specs.Limits.{maxLines, rowWidth};
 ghost use Rattle.model.specs.Answers.{report, outcome};
 ghost use Rattle.model.specs.Stored.{registers, operandOf, targetOf, lineOf};
-ghost use Rattle.model.specs.Step.{weight, distance, shiftBy, negated, alu, taken, targetLine, next, after, row};
-ghost use Rattle.model.specs.Places.{place};
+ghost use Rattle.model.specs.Step.{weight, distance, shiftBy, negated, alu, taken, targetLine, meaning, next, after, row};
+ghost use Rattle.model.specs.Places.{kind, place};
 ghost use Rattle.model.specs.Run.{runOutcome};
 ghost use Rattle.machine.specs.Loop.{cellPlace, placeOf, fetchOf, argumentsOf, rowOf, effectOf, jumps, putRow, machine, runFrom};
 use model::Answer;
@@ -238,13 +238,29 @@ struct Arguments {
     second: u8,
 }
 
-// What a line of that mark makes of what was fetched: the value of each; neither the mark nor the place changes it.
+// What a byte of a place means as an argument of a line of that mark: in a marked line a public place means its lowest bit.
+pub fn argument(mark: Mark, at: usize, byte: u8) -> u8
+    ensures { λ r. ⌜ r ≡ meaning mark (kind at) byte ⌝ }
+{
+    match mark {
+        Mark::Unmarked => byte,
+        Mark::Marked => {
+            if coding::is_public(coding::kind_at(at)) {
+                byte % 2
+            } else {
+                byte
+            }
+        }
+    }
+}
+
+// The arguments of a line of that mark, of what was fetched.
 fn read_arguments(mark: Mark, x: Fetched, y: Fetched) -> Arguments
     ensures { λ r. ⌜ r ≡ argumentsOf mark x y ⌝ }
 {
     Arguments {
-        first: x.value,
-        second: y.value,
+        first: argument(mark, x.at, x.value),
+        second: argument(mark, y.at, y.value),
     }
 }
 

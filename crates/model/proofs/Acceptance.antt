@@ -1,5 +1,5 @@
--- What acceptance says of a line's operands: those of an unmarked line are public, those of a marked one sensitive. Each condition that
--- does not hold gives a bound. Assumes nothing.
+-- What acceptance says of a line's operands: those of an unmarked line are public, the destination of a marked one is sensitive. Each
+-- condition that does not hold gives a bound. Assumes nothing.
 use mathlib.Core.Path.{_≡_, refl, sym, subst}
 use mathlib.Core.Bool.{Bool, true, false, not, cond, _&&_, _||_}
 use mathlib.Core.List.{List, [], _∷_}
@@ -18,14 +18,15 @@ use Rattle.model.specs.declared.Operand.{Operand}
 use Rattle.model.specs.declared.Operand.the-variants.{Empty, Literal, Register, Cell, PublicCell, SensitiveCell, TableCell}
 use Rattle.model.specs.declared.Target.{Target}
 use Rattle.model.specs.declared.Line.{Line}
-use Rattle.model.specs.declared.Kind.the-variants.{Public, Sensitive}
+use Rattle.model.specs.declared.Kind.{Kind}
+use Rattle.model.specs.declared.Kind.the-variants.{Neither, Public, Sensitive}
 use Rattle.model.specs.Places.{kind, kindOf, isPublic, isSensitive}
 use Rattle.model.specs.Lines.{fills, operandRight, isLiteral, correct, AllCorrect}
-use Rattle.model.specs.Marks.{isReserved, hasSensitiveBase, isNoBit, hasMacro, holds10, holds11, holds12, holds13, holds14, holds15, holds16, markFault, firstBad, marksOf, Accepted}
+use Rattle.model.specs.Marks.{isReserved, hasSensitiveBase, isNoBit, hasMacro, holds10, holds11, holds12, holds14, holds15, holds16, markFault, firstBad, marksOf, Accepted}
 use Rattle.model.proofs.TestLaws.{below, is-true, and-both}
 use Rattle.model.proofs.StoredLaws.{correct-fields, counted-count, counted-if, counted-unless}
 use Rattle.model.proofs.PlaceLaws.{public-register, sensitive-register, public-cell, sensitive-cell}
-use Rattle.model.proofs.Operands.{Base, SensitivePlace, SensitiveArgument, PublicOperand}
+use Rattle.model.proofs.Operands.{Base, SensitivePlace, SensitiveArgument, PublicOperand, MarkedArgument, public-bit, sensitive-bit}
 
 ruleset bounds = (arith, ltb→lt, nltb→le, leb→le, nleb→lt)
 
@@ -69,7 +70,7 @@ line-at n (x ∷ p) h (suc k) l e = line-at n p (h .2) k l e
 
 -- ---- tests
 
-nor-T : (a b : Bool) → T (not (a || b)) → T (not a) × T (not b)
+pub nor-T : (a b : Bool) → T (not (a || b)) → T (not a) × T (not b)
 nor-T true b h = absurd h
 nor-T false b h = (tt, h)
 
@@ -148,6 +149,22 @@ public-operand b (PublicCell x k) f r s p = base-of x (ltb→lt x 32 (and-both b
 public-operand b (SensitiveCell x k) f r s p = p
 public-operand b (TableCell x k) f r s p = r
 
+-- a place that is not sensitive is public
+public-argument : (o : Operand) → Clean o → isPublic (kindOf o) ≡ true → PublicOperand o
+public-argument o c e = public-operand true o (c .range) (c .named) (c .based) (by (kindOf o) e)
+  where
+    by : (k : Kind) → isPublic k ≡ true → T (not (isSensitive k))
+    by Neither h = tt
+    by Public h = tt
+    by Sensitive h = let z : _≡_ {A = ℕ} 0 1 = cc in absurd (omega arith)
+
+marked-argument : (o : Operand) → Clean o → T (not (isNoBit o)) → MarkedArgument o
+marked-argument o c n = by (isPublic (kindOf o)) refl
+  where
+    by : (p : Bool) → isPublic (kindOf o) ≡ p → MarkedArgument o
+    by true e = public-bit e (public-argument o c e)
+    by false e = sensitive-bit e (sensitive-argument o c (rw e tt) n)
+
 -- ---- lines
 
 -- none of the conditions holds
@@ -155,7 +172,6 @@ pub record Clear (n : ℕ) (l : Line) : Type 0 where
   pub c10 : T (not (holds10 l))
   pub c11 : T (not (holds11 l))
   pub c12 : T (not (holds12 l))
-  pub c13 : T (not (holds13 l))
   pub c14 : T (not (holds14 l))
   pub c15 : T (not (holds15 l))
   pub c16 : T (not (holds16 n l))
@@ -166,11 +182,10 @@ clear n l e =
     let h10 = cond-zero (holds10 l) 10 _ (omega arith) e in
     let h11 = cond-zero (holds11 l) 11 _ (omega arith) (h10 .1) in
     let h12 = cond-zero (holds12 l) 12 _ (omega arith) (h11 .1) in
-    let h13 = cond-zero (holds13 l) 13 _ (omega arith) (h12 .1) in
-    let h14 = cond-zero (holds14 l) 14 _ (omega arith) (h13 .1) in
+    let h14 = cond-zero (holds14 l) 14 _ (omega arith) (h12 .1) in
     let h15 = cond-zero (holds15 l) 15 _ (omega arith) (h14 .1) in
     let h16 = cond-zero (holds16 n l) 16 _ (omega arith) (h15 .1) in
-    record { c10 = h10 .0; c11 = h11 .0; c12 = h12 .0; c13 = h13 .0; c14 = h14 .0; c15 = h15 .0; c16 = h16 .0 }
+    record { c10 = h10 .0; c11 = h11 .0; c12 = h12 .0; c14 = h14 .0; c15 = h15 .0; c16 = h16 .0 }
 
 pub record Plain (d a b : Operand) : Type 0 where
   pub destination : PublicOperand d
@@ -196,24 +211,23 @@ plain n op d a b t h e =
 pub record MarkedOperands (op : Opcode) (d a b : Operand) : Type 0 where
   pub able : T (hasMacro op)
   pub destination : T (fills op .destination) → SensitivePlace d
-  pub first : T (fills op .first) → SensitiveArgument a
-  pub second : T (fills op .second) → SensitiveArgument b
+  pub first : T (fills op .first) → MarkedArgument a
+  pub second : T (fills op .second) → MarkedArgument b
 
 clean : (must : Bool) (o : Operand) → T (operandRight must o) → T (not (isReserved o)) → T (not (hasSensitiveBase o)) → T must → Clean o
 clean must o f r s x = record { range = subst (λ (y : Bool). T (operandRight y o)) (is-true must x) f; named = r; based = s }
 
 pub marked-operands : (n : ℕ) (op : Opcode) (d a b : Operand) (t : Target) → T (correct (mk Marked op d a b t)) → markFault n (mk Marked op d a b t) ≡ 0 → MarkedOperands op d a b
-unfolding holds10 holds11 holds12 holds13 holds14 holds15
+unfolding holds10 holds11 holds12 holds14 holds15
 marked-operands n op d a b t h e =
     let c = clear n (mk Marked op d a b t) e in
     let f = correct-fields (mk Marked op d a b t) h in
     let r = three (isReserved d) (isReserved a) (isReserved b) (c .c10) in
     let g = three (hasSensitiveBase d) (hasSensitiveBase a) (hasSensitiveBase b) (c .c12) in
-    let p = nor-T (isPublic (kindOf a)) (isPublic (kindOf b)) (c .c13) in
     let q = nor-T (isNoBit a) (isNoBit b) (c .c15) in
     record {
       able = not-not (hasMacro op) (c .c14);
       destination = λ x. sensitive-place d (clean (fills op .destination) d (f .destination) (r .0) (g .0) x) (f .place) (c .c11);
-      first = λ x. sensitive-argument a (clean (fills op .first) a (f .first) (r .1) (g .1) x) (p .0) (q .0);
-      second = λ x. sensitive-argument b (clean (fills op .second) b (f .second) (r .2) (g .2) x) (p .1) (q .1);
+      first = λ x. marked-argument a (clean (fills op .first) a (f .first) (r .1) (g .1) x) (q .0);
+      second = λ x. marked-argument b (clean (fills op .second) b (f .second) (r .2) (g .2) x) (q .1);
     }

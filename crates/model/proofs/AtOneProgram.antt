@@ -9,7 +9,7 @@ use lib.Dec.{T}
 use lib.ListN.{replicate, set, drop}
 use Rattle.model.specs.declared.Mark.the-variants.{Unmarked}
 use Rattle.model.specs.declared.Opcode.the-variants.{Not, Mov, And, Orr, Xor, Beq}
-use Rattle.model.specs.declared.Operand.the-variants.{Empty, Literal, Register}
+use Rattle.model.specs.declared.Operand.the-variants.{Empty, Literal, Register, PublicCell}
 use Rattle.model.specs.declared.Target.the-variants.{Empty as NoTarget, Line as ToLine}
 use Rattle.model.specs.declared.Line.{Line}
 use Rattle.model.specs.declared.Layout.{Layout}
@@ -23,7 +23,7 @@ use Rattle.model.specs.Expansion.{markedLine, move, load, scale, combine
 use Rattle.model.specs.Marks.{Accepted}
 use Rattle.model.proofs.Finite.{forLayouts}
 
--- ---- a program with every macro, where the destination is an argument, with a public literal and a target behind a macro
+-- ---- a program with every macro, where the destination is an argument, with a public literal, public bits and a target behind a macro
 
 abbrev small : List Line
 small =
@@ -35,12 +35,14 @@ small =
     ∷ markedLine Xor (Register 16) (Register 16) (Register 17)
     ∷ markedLine Not (Register 16) (Register 16) Empty
     ∷ move (Register 17) (Register 17)
+    ∷ markedLine Xor (Register 16) (Register 16) (Register 4)
+    ∷ markedLine Orr (Register 17) (PublicCell 4 3) (Register 16)
     ∷ []
 
 -- it is accepted, so the claims speak of it
 pub small-accepted : Accepted small
 unfolding Accepted correct
-small-accepted = ((tt, (tt, (tt, (tt, (tt, (tt, (tt, (tt, tt)))))))), refl)
+small-accepted = ((tt, (tt, (tt, (tt, (tt, (tt, (tt, (tt, (tt, (tt, tt)))))))))), refl)
 
 -- bits in r16 and r17
 abbrev bits : ℕ → ℕ → State

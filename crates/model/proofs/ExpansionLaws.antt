@@ -21,14 +21,15 @@ use Rattle.model.specs.declared.Target.the-variants.{Empty as NoTarget, 
 use Rattle.model.specs.declared.Line.{Line}
 use Rattle.model.specs.Limits.{maxLines, maxAccepted, longest}
 use Rattle.model.specs.Answers.{Report, counted}
-use Rattle.model.specs.Lines.{fills, operandRight, targetRight, isLiteral, correct, AllCorrect}
+use Rattle.model.specs.Lines.{fills, operandRight, targetRight, isLiteral, correct, AllCorrect, Every}
 use Rattle.model.specs.Stored.{codes, lineCount, lines, programCheck}
-use Rattle.model.specs.Code.{code, andTable, orrTable, xorTable}
-use Rattle.model.specs.Expansion.{coded, move, load, shifts, scale, combine, fetch, flip, writeBack, lookup, negate, copy, macro, newTarget, retarget, partOf, part, size, start, joined, expand}
+use Rattle.model.specs.Code.{code, andTable, orrTable, xorTable, codeTable}
+use Rattle.model.specs.Places.{isPublic, kindOf}
+use Rattle.model.specs.Expansion.{coded, markedLine, move, codeBit, load, shifts, scale, combine, fetch, flip, writeBack, lookup, negate, copy, macro, newTarget, retarget, partOf, part, size, start, joined, expand}
 use Rattle.model.specs.Marks.{isAbove, holds16, markFault, marksOf, markCheck, Accepted}
-use Rattle.model.proofs.TestLaws.{and-both, both-and}
+use Rattle.model.proofs.TestLaws.{is-true, and-both, both-and}
 use Rattle.model.proofs.Finite.{code-low, mask-low, table-low}
-use Rattle.model.proofs.MacroLines.{every-append, Every, macro-lines}
+use Rattle.model.proofs.MacroLines.{every-append, macro-lines}
 use Rattle.model.proofs.Lengths.{macro-bounds}
 use Rattle.model.proofs.Parts.{joined-length}
 use Rattle.model.proofs.Acceptance.{clear, AllRight, marks-right, accepted-right}
@@ -88,8 +89,15 @@ move-correct d a hd nd ha =
     both-and (x && y && z && true) true (both-and (x && y && z) true (both-and (x && y) z (both-and x y hd nd) ha) tt) tt
 
 load-correct : (n : ℕ) (a : Operand) → T (ltb n 32) → T (operandRight true a) → AllCorrect (load n a)
-unfolding load operandRight isLiteral
-load-correct n a hn ha = (move-correct (Register n) (Register 0) hn tt tt, (move-correct (Register n) a hn tt ha, tt))
+unfolding load codeBit correct operandRight isLiteral
+load-correct n a hn ha = (move-correct (Register n) (Register 0) hn tt tt, (move-correct (Register n) a hn tt ha, by (isPublic (kindOf a))))
+  where
+    masked : T (correct (markedLine And (Register n) (Register n) (Literal 1)))
+    masked = rw (is-true (ltb n 32) hn) tt
+
+    by : (c : Bool) → AllCorrect (codeBit c n)
+    by true = (masked, (move-correct (Register n) (TableCell n codeTable) hn tt (both-and (ltb n 32) true hn tt), tt))
+    by false = tt
 
 -- the mask is a right literal
 mask-right : (L : Layout) → Known L → T (leb (L .mask) 255 && true)

@@ -16,7 +16,7 @@ use Rattle.model.specs.declared.Opcode.the-variants.{Not, And, Orr, Xor}
 use Rattle.model.specs.declared.Layout.{Layout}
 use Rattle.model.specs.Layouts.{neighbours, Known, near}
 use Rattle.model.specs.Step.{weight, distance, alu}
-use Rattle.model.specs.Code.{code, page, andTable, orrTable, xorTable}
+use Rattle.model.specs.Code.{code, page, andTable, orrTable, xorTable, codeTable}
 use Rattle.model.proofs.TestLaws.{and-both, allBelow, all-below}
 
 -- ---- the three tables, by number
@@ -103,6 +103,7 @@ pairs L o a b =
     ∷ pair (under x 256) 1
     ∷ pair (under (L .mask) 256) 1
     ∷ pair (under (tableAt L o) 256) 1
+    ∷ pair (page L (codeTable + a)) x
     ∷ []
 
 abbrev pub agree : List Pair → Bool
@@ -215,6 +216,11 @@ module _ (L : Layout) (K : Known L) (a : ℕ) (h : a < 2) where
   pub code-low : code L a < 256
   unfolding pairs
   code-low = under-lt (code L a) 256 (one 20)
+
+  -- where it stands in the table page
+  pub code-stands : page L (codeTable + a) ≡ code L a
+  unfolding pairs
+  code-stands = one 23
 
 -- of the layout alone
 module _ (L : Layout) (K : Known L) where

@@ -28,4 +28,6 @@ pub mod OutcomeLaws
 pub mod CheckAnswers
 pub mod Edges
 pub mod ShiftCounts
+pub mod PublicBits
+pub mod AsBefore
 pub mod AtOneProgram

@@ -9,13 +9,10 @@ use Rattle.model.specs.declared.Opcode.the-variants.{Nop, Jmp, Not, Mov,
 use Rattle.model.specs.declared.Operand.{Operand}
 use Rattle.model.specs.declared.Operand.the-variants.{Literal, Register}
 use Rattle.model.specs.declared.Line.{Line}
+use Rattle.model.specs.Lines.{Every}
 use Rattle.model.specs.Code.{andTable, orrTable, xorTable}
-use Rattle.model.specs.Expansion.{markedLine, move, load, shifts, scale, combine, fetch, flip, writeBack, lookup, negate, copy, macro}
-
--- P holds of every line
-abbrev pub Every : (Line → Type 0) → List Line → Type 0
-Every P [] = Unit {0}
-Every P (l ∷ ls) = P l × Every P ls
+use Rattle.model.specs.Places.{isPublic, kindOf}
+use Rattle.model.specs.Expansion.{markedLine, move, codeBit, load, shifts, scale, combine, fetch, flip, writeBack, lookup, negate, copy, macro}
 
 pub every-append : (P : Line → Type 0) (xs ys : List Line) → Every P xs → Every P ys → Every P (xs ++ ys)
 every-append P [] ys h g = g
@@ -31,8 +28,12 @@ pub record OfMacros (P : Line → Type 0) : Type 0 where
 
 module _ {P : Line → Type 0} (F : OfMacros P) (L : Layout) where
   load-lines : (n : ℕ) (a : Operand) → Every P (load n a)
-  unfolding load
-  load-lines n a = (F .moves (Register n) (Register 0), (F .moves (Register n) a, tt))
+  unfolding load codeBit
+  load-lines n a = (F .moves (Register n) (Register 0), (F .moves (Register n) a, go (isPublic (kindOf a))))
+    where
+      go : (c : Bool) → Every P (codeBit c n)
+      go true = (F .masks n 1, (F .moves _ _, tt))
+      go false = tt
 
   scale-lines : Every P (scale L)
   unfolding scale shifts

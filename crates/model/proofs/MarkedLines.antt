@@ -25,7 +25,7 @@ use Rattle.model.proofs.Runs.{ran}
 use Rattle.model.proofs.MacroLines.{macro-lines}
 use Rattle.model.proofs.Straight.{exec, exec-then, Straight}
 use Rattle.model.proofs.PlaceLaws.{mapAt-getD, bits-set}
-use Rattle.model.proofs.Operands.{SensitivePlace, SensitiveArgument, steady-place, address-same}
+use Rattle.model.proofs.Operands.{SensitivePlace, MarkedArgument, steady-place, address-same}
 use Rattle.model.proofs.Acceptance.{mk, MarkedOperands}
 use Rattle.model.proofs.Finite.{tableAt, tableOp, tableWeight, low, scaled, joinedIndex, flipped, slot, code-weight, low-weight, flipped-weight, flipped-code, not-bit, index-weight, slot-low, slot-holds, table-bit}
 use Rattle.model.proofs.Pieces.{held, plus4, r1, r2, r3, scaleEnd, scaleShown, scale-shown, combineEnd, combineShown, combine-shown, flipEnd, flipShown, flip-shown, fetchEnd, fetchShown, fetch-shown, writeBackShown, write-back-shown}
@@ -56,11 +56,11 @@ pub record Related (L : Layout) (s v : State) (w : Weights) : Type 0 where
 
 -- ---- what is shown
 
-unfoldable pub copyShown : Operand → ℕ → ℕ → State → ℕ → List Row
-copyShown a k z s w = loadShown a k z s ++ writeBackShown (loadEnd a k) w
+unfoldable pub copyShown : Layout → Operand → ℕ → ℕ → State → ℕ → List Row
+copyShown L a k z s w = loadShown L a k z s ++ writeBackShown (loadEnd a k) w
 
-unfoldable pub negateShown : Operand → ℕ → ℕ → State → ℕ → List Row
-negateShown a k x s w = loadShown a k x s ++ (flipShown (loadEnd a k) ++ writeBackShown (flipEnd (loadEnd a k)) w)
+unfoldable pub negateShown : Layout → Operand → ℕ → ℕ → State → ℕ → List Row
+negateShown L a k x s w = loadShown L a k x s ++ (flipShown (loadEnd a k) ++ writeBackShown (flipEnd (loadEnd a k)) w)
 
 -- where the second load, the join, the fetch and the store begin
 abbrev secondAt : (L : Layout) → Operand → ℕ → ℕ
@@ -77,7 +77,7 @@ writeBackAt L a b k = fetchEnd (fetchAt L a b k)
 
 unfoldable pub lookupShown : (L : Layout) → Operand → Operand → ℕ → Weights → State → ℕ → ℕ → List Row
 lookupShown L a b k e s n w =
-    loadShown a k (e .one) s ++ (scaleShown L (loadEnd a k) ++ (loadShown b (secondAt L a k) (e .two) s
+    loadShown L a k (e .one) s ++ (scaleShown L (loadEnd a k) ++ (loadShown L b (secondAt L a k) (e .two) s
     ++ (combineShown (combineAt L a b k) ++ (fetchShown (fetchAt L a b k) (e .three) n ++ writeBackShown (writeBackAt L a b k) w))))
 
 -- the rows of a marked line's part that begins at k
@@ -85,8 +85,8 @@ unfoldable pub shown : (L : Layout) → Opcode → Operand → Operand → Opera
 unfolding copyShown negateShown lookupShown
 shown L Nop d a b k s w = []
 shown L Jmp d a b k s w = []
-shown L Not d a b k s w = negateShown a k (w .one) s (weight (address d s))
-shown L Mov d a b k s w = copyShown a k (w .three) s (weight (address d s))
+shown L Not d a b k s w = negateShown L a k (w .one) s (weight (address d s))
+shown L Mov d a b k s w = copyShown L a k (w .three) s (weight (address d s))
 shown L And d a b k s w = lookupShown L a b k w s (tableWeight 0) (weight (address d s))
 shown L Orr d a b k s w = lookupShown L a b k w s (tableWeight 1) (weight (address d s))
 shown L Xor d a b k s w = lookupShown L a b k w s (tableWeight 2) (weight (address d s))
@@ -144,31 +144,31 @@ module _ (L : Layout) (K : Known L) (r : List ℕ) (bits : BitState (zeros r)) w
 
   -- one macro from an image whose scratch registers hold x, y and z
   module _ (d : Operand) (hd : SensitivePlace d) (k x y z : ℕ) (w : Weights) (wx : weight x ≡ w .one) (wy : weight y ≡ w .two) (wz : weight z ≡ w .three) where
-    copy-done : (a : Operand) → SensitiveArgument a
+    copy-done : (a : Operand) → MarkedArgument a
         → Done L (exec (copy d (coded L a)) k (held x y z (rails L r))) (set (zeros r) (place d (zeros r)) (argument Marked a (zeros r)))
-        (weights (w .one) (w .two) 1) (copyShown a k (w .three) (zeros r) (weight (address d (zeros r))))
+        (weights (w .one) (w .two) 1) (copyShown L a k (w .three) (zeros r) (weight (address d (zeros r))))
     unfolding copy copyShown
     copy-done a ha =
         let A = loaded L K r bits a ha in
         let D = found L r bits d hd in
         let c = argument Marked a (zeros r) in
-        let w3 = ap (λ (n : ℕ). loadShown a k n (zeros r)) wz in
+        let w3 = ap (λ (n : ℕ). loadShown L a k n (zeros r)) wz in
         done d D c c _ x y (code L c) _ _ (A .bit) refl
         (exec-then (load 3 (coded L a)) (writeBack 3 d) k (held x y z (rails L r))
         (A .loads r3 k x y z ∙ ap (ran (loadEnd a k) (held x y (code L c) (rails L r))) w3)
         (write-back-shown L K r3 d c (getD r (D .at) 0) (A .bit) (D .bit) (loadEnd a k) x y (code L c) (rails L r) (D .at) (address d (zeros r)) refl (D .holds) (D .destination)))
         wx wy (code-weight L K c (A .bit))
 
-    negate-done : (a b : Operand) → SensitiveArgument a
+    negate-done : (a b : Operand) → MarkedArgument a
         → Done L (exec (negate L d (coded L a)) k (held x y z (rails L r))) (set (zeros r) (place d (zeros r)) (alu Marked Not (argument Marked a (zeros r)) (argument Marked b (zeros r))))
-        (weights 1 (w .two) (w .three)) (negateShown a k (w .one) (zeros r) (weight (address d (zeros r))))
+        (weights 1 (w .two) (w .three)) (negateShown L a k (w .one) (zeros r) (weight (address d (zeros r))))
     unfolding negate negateShown alu
     negate-done a b ha =
         let A = loaded L K r bits a ha in
         let D = found L r bits d hd in
         let n = argument Marked a (zeros r) in
         let c = alu Marked Not n 0 in
-        let w1 = ap (λ (n : ℕ). loadShown a k n (zeros r)) wx in
+        let w1 = ap (λ (n : ℕ). loadShown L a k n (zeros r)) wx in
         done d D c (alu Marked Not n (argument Marked b (zeros r))) _ (flipped L (code L n)) y z _ _ (not-bit L K n (A .bit)) refl
         (exec-then (load 1 (coded L a)) (flip L ++ writeBack 1 d) k (held x y z (rails L r))
         (A .loads r1 k x y z ∙ ap (ran (loadEnd a k) (held (code L n) y z (rails L r))) w1)
@@ -178,7 +178,7 @@ module _ (L : Layout) (K : Known L) (r : List ℕ) (bits : BitState (zeros r)) w
         (flipped-code L K n (A .bit)) (D .holds) (D .destination))))
         (flipped-weight L K n (A .bit)) wy wz
 
-    lookup-done : (o : ℕ) → o < 3 → (a b : Operand) → SensitiveArgument a → SensitiveArgument b
+    lookup-done : (o : ℕ) → o < 3 → (a b : Operand) → MarkedArgument a → MarkedArgument b
         → Done L (exec (lookup L (tableAt L o) d (coded L a) (coded L b)) k (held x y z (rails L r)))
         (set (zeros r) (place d (zeros r)) (alu Marked (tableOp o) (argument Marked a (zeros r)) (argument Marked b (zeros r))))
         (weights 2 1 1) (lookupShown L a b k w (zeros r) (tableWeight o) (weight (address d (zeros r))))
@@ -198,8 +198,8 @@ module _ (L : Layout) (K : Known L) (r : List ℕ) (bits : BitState (zeros r)) w
         let points : 288 + slot L o m n % 256 ≡ plus4 at = omega arith in
         let holds : getD (rails L r) at 0 ≡ code L c =
         mapAt-getD (imageAt L) 4 r at (omega (arith, tail-length L r bits)) ∙ image-page L (slot L o m n) (getD r at 0) ∙ slot-holds L K o m n ho (A .bit) (B .bit) in
-        let w1 = ap (λ (n : ℕ). loadShown a k n (zeros r)) wx in
-        let w2 = ap (λ (n : ℕ). loadShown b (secondAt L a k) n (zeros r)) wy in
+        let w1 = ap (λ (n : ℕ). loadShown L a k n (zeros r)) wx in
+        let w2 = ap (λ (n : ℕ). loadShown L b (secondAt L a k) n (zeros r)) wy in
         done d D c c _ i (low L (code L n)) (code L c) _ _ hc refl
         (exec-then (load 1 (coded L a)) (scale L ++ (load 2 (coded L b) ++ (combine L ++ (fetch t ++ writeBack 3 d)))) k (held x y z (rails L r))
         (A .loads r1 k x y z ∙ ap (ran (loadEnd a k) (held (code L m) y z (rails L r))) w1)
@@ -235,18 +235,18 @@ module _ (L : Layout) (K : Known L) (r : List ℕ) (bits : BitState (zeros r)) w
 -- ---- the same is shown in states that agree in the public places
 
 module _ (L : Layout) (s t : State) (h : SamePublic s t) where
-  lookup-same : (d a b : Operand) → SensitivePlace d → SensitiveArgument a → SensitiveArgument b → (k n : ℕ) (w : Weights)
+  lookup-same : (d a b : Operand) → SensitivePlace d → MarkedArgument a → MarkedArgument b → (k n : ℕ) (w : Weights)
       → lookupShown L a b k w s n (weight (address d s)) ≡ lookupShown L a b k w t n (weight (address d t))
   unfolding lookupShown
   lookup-same d a b hd ha hb k n w =
-      rw (address-same s t h d (steady-place d hd), load-same s t h a ha k (w .one), load-same s t h b hb (secondAt L a k) (w .two))
+      rw (address-same s t h d (steady-place d hd), load-same L s t h a ha k (w .one), load-same L s t h b hb (secondAt L a k) (w .two))
 
   pub shown-same : (op : Opcode) (d a b : Operand) → MarkedOperands op d a b → (k : ℕ) (w : Weights) → shown L op d a b k s w ≡ shown L op d a b k t w
   unfolding shown copyShown negateShown fills
   shown-same Nop d a b M k w = refl
   shown-same Jmp d a b M k w = refl
-  shown-same Not d a b M k w = rw (address-same s t h d (steady-place d (M .destination tt)), load-same s t h a (M .first tt) k (w .one))
-  shown-same Mov d a b M k w = rw (address-same s t h d (steady-place d (M .destination tt)), load-same s t h a (M .first tt) k (w .three))
+  shown-same Not d a b M k w = rw (address-same s t h d (steady-place d (M .destination tt)), load-same L s t h a (M .first tt) k (w .one))
+  shown-same Mov d a b M k w = rw (address-same s t h d (steady-place d (M .destination tt)), load-same L s t h a (M .first tt) k (w .three))
   shown-same And d a b M k w = lookup-same d a b (M .destination tt) (M .first tt) (M .second tt) k (tableWeight 0) w
   shown-same Orr d a b M k w = lookup-same d a b (M .destination tt) (M .first tt) (M .second tt) k (tableWeight 1) w
   shown-same Xor d a b M k w = lookup-same d a b (M .destination tt) (M .first tt) (M .second tt) k (tableWeight 2) w

@@ -1,6 +1,7 @@
 -- The operands of accepted lines: which places they name, and that they read the same in states that agree in the public places.
 -- By cases on the operand. Assumes nothing.
 use mathlib.Core.Path.{_≡_, refl, ap, _∙_}
+use mathlib.Core.Bool.{true, false}
 use Prim.Native.Nat.{ℕ, _+_, _%_, _≤_, _<_}
 use native.Mathlib.Omega.{arith}
 use lib.ListN.{getD}
@@ -8,7 +9,7 @@ use Rattle.model.specs.declared.Operand.{Operand}
 use Rattle.model.specs.declared.Operand.the-variants.{Empty, Literal, Register, Cell, PublicCell, SensitiveCell, TableCell}
 use Rattle.model.specs.declared.Kind.{Kind}
 use Rattle.model.specs.declared.Kind.the-variants.{Public, Sensitive}
-use Rattle.model.specs.Places.{State, kind, kindOf, value, place, address}
+use Rattle.model.specs.Places.{State, kind, kindOf, isPublic, value, place, address}
 use Rattle.model.specs.Images.{SamePublic}
 use Rattle.model.proofs.PlaceLaws.{public-register, sensitive-register, public-cell, sensitive-cell, table-cell}
 
@@ -67,6 +68,11 @@ PublicOperand (PublicCell r k) = Base r
 PublicOperand (SensitiveCell r k) = ⊥
 PublicOperand (TableCell r k) = ⊥
 
+-- an argument of a marked line: a public place, of which the lowest bit is meant, or a sensitive place or a literal bit
+pub data MarkedArgument (o : Operand) : Type 0 where
+  public-bit : isPublic (kindOf o) ≡ true → PublicOperand o → MarkedArgument o
+  sensitive-bit : isPublic (kindOf o) ≡ false → SensitiveArgument o → MarkedArgument o
+
 pub steady-place : (o : Operand) → SensitivePlace o → Steady o
 steady-place Empty h = tt
 steady-place (Literal n) h = tt
@@ -93,6 +99,10 @@ steady-public (Cell n) h = tt
 steady-public (PublicCell r k) h = h
 steady-public (SensitiveCell r k) h = absurd h
 steady-public (TableCell r k) h = h
+
+pub steady-marked : (o : Operand) → MarkedArgument o → Steady o
+steady-marked o (public-bit e h) = steady-public o h
+steady-marked o (sensitive-bit e h) = steady-argument o h
 
 module _ (s t : State) (h : SamePublic s t) where
   base-same : (r : ℕ) → Base r → getD s r 0 ≡ getD t r 0

@@ -3,11 +3,14 @@
 use mathlib.Core.Path.{_≡_, refl, ap, _∙_}
 use mathlib.Core.Bool.{Bool, true, false}
 use mathlib.Core.List.{List, [], _∷_}
-use Prim.Native.Nat.{ℕ, suc, _+_, _%_, _<_}
+use Prim.Native.Nat.{ℕ, zero, suc, _+_, _%_, _<_}
+use native.Mathlib.Omega.{arith}
 use lib.Bits.{xor-zero-r, bitOr}
 use lib.Count.{ones}
+use lib.Dec.{lit<}
 use lib.ListN.{length, getD, set}
 use lib.Seq.{getD-set-same, set-set}
+use Rattle.model.specs.declared.Mark.the-variants.{Marked}
 use Rattle.model.specs.declared.Opcode.the-variants.{And}
 use Rattle.model.specs.declared.Operand.{Operand}
 use Rattle.model.specs.declared.Operand.the-variants.{Literal, Register}
@@ -15,8 +18,8 @@ use Rattle.model.specs.declared.Layout.{Layout}
 use Rattle.model.specs.Layouts.{Known}
 use Rattle.model.specs.Places.{State, place, address, value}
 use Rattle.model.specs.Step.{Row, row, after, result, argument, alu, weight, distance}
-use Rattle.model.specs.Code.{code}
-use Rattle.model.specs.Expansion.{markedLine, load, shifts, scale, combine, fetch, flip, writeBack}
+use Rattle.model.specs.Code.{code, codeTable}
+use Rattle.model.specs.Expansion.{markedLine, precharged, codeBit, shifts, scale, combine, fetch, flip, writeBack}
 use Rattle.model.proofs.Runs.{ran}
 use Rattle.model.proofs.Straight.{exec, exec-then}
 use Rattle.model.proofs.Finite.{low, shifted, scaled, joinedIndex, flipped, slot, tableAt, tableWeight, code-weight, code-loaded, code-cleared, low-weight, low-distance, twice-weight, twice-distance, twice-twice-weight, twice-twice-distance, flipped-weight, flipped-distance, index-weight, index-distance, slot-weight}
@@ -58,18 +61,46 @@ kept r1 v x y z r = held v y z r
 kept r2 v x y z r = held x v z r
 kept r3 v x y z r = held x y v r
 
--- ---- load: an operand whose value and address do not turn on the scratch registers
+-- ---- charge and load: an operand whose argument and address do not turn on the scratch registers
 
 pub record Source (a : Operand) (r : List ℕ) (v u : ℕ) : Type 0 where
-  pub reads : (x y z : ℕ) → value a (held x y z r) ≡ v
+  pub reads : (x y z : ℕ) → argument Marked a (held x y z r) ≡ v
   pub stands : (x y z : ℕ) → address a (held x y z r) ≡ u
 
-pub load-exec : {n : ℕ} (S : Scratch n) (a : Operand) (k x y z : ℕ) (r : List ℕ) (v u : ℕ) → Source a r v u
-    → exec (load n a) k (held x y z r) ≡ ran (suc (suc k)) (kept S v x y z r) (shows k 0 (got S x y z) 0 0 0 ∷ shows (suc k) v 0 u 0 0 ∷ [])
-unfolding load exec row after result alu argument value place address
-load-exec r1 a k x y z r v u A = simp (A .reads, A .stands)
-load-exec r2 a k x y z r v u A = simp (A .reads, A .stands)
-load-exec r3 a k x y z r v u A = simp (A .reads, A .stands)
+charge-exec : {n : ℕ} (S : Scratch n) (a : Operand) (k x y z : ℕ) (r : List ℕ) (v u : ℕ) → Source a r v u
+    → exec (precharged (Register n) a) k (held x y z r) ≡ ran (suc (suc k)) (kept S v x y z r) (shows k 0 (got S x y z) 0 0 0 ∷ shows (suc k) v 0 u 0 0 ∷ [])
+unfolding exec row after result alu argument value place address
+charge-exec r1 a k x y z r v u A = simp (A .reads, A .stands)
+charge-exec r2 a k x y z r v u A = simp (A .reads, A .stands)
+charge-exec r3 a k x y z r v u A = simp (A .reads, A .stands)
+
+pub charge-shown : {n : ℕ} (S : Scratch n) (a : Operand) (k x y z : ℕ) (r : List ℕ) (v u : ℕ) → Source a r v u
+    → exec (precharged (Register n) a) k (held x y z r)
+    ≡ ran (suc (suc k)) (kept S v x y z r) (six k 0 (weight (got S x y z)) 0 0 0 ∷ shows (suc k) v 0 u 0 0 ∷ [])
+unfolding ones
+charge-shown S a k x y z r v u A = charge-exec S a k x y z r v u A ∙ rw (distance-zero (got S x y z))
+
+-- ---- code a bit: where the table page, past r3, holds the codes
+
+pub record Coder (L : Layout) (r : List ℕ) : Type 0 where
+  pub codes : (v : ℕ) → v < 2 → getD r (524 + v) 0 ≡ code L v
+
+-- the rows of a bit v in a register, coded
+unfoldable pub codeBitShown : Layout → ℕ → ℕ → List Row
+codeBitShown L k v = shows k v v 0 0 0 ∷ shows (suc k) (code L v) v (256 + (v + codeTable) % 256) 0 0 ∷ []
+
+pub code-bit-exec : (L : Layout) {n : ℕ} (S : Scratch n) (k x y z : ℕ) (r : List ℕ) → Coder L r → (v : ℕ) → v < 2
+    → exec (codeBit true n) k (kept S v x y z r) ≡ ran (suc (suc k)) (kept S (code L v) x y z r) (codeBitShown L k v)
+unfolding codeBit codeBitShown exec row after result alu argument value place address
+code-bit-exec L r1 k x y z r C zero h = simp (C .codes 0 (lit< tt))
+code-bit-exec L r1 k x y z r C (suc zero) h = simp (C .codes 1 (lit< tt))
+code-bit-exec L r1 k x y z r C (suc (suc v)) h = absurd (omega arith)
+code-bit-exec L r2 k x y z r C zero h = simp (C .codes 0 (lit< tt))
+code-bit-exec L r2 k x y z r C (suc zero) h = simp (C .codes 1 (lit< tt))
+code-bit-exec L r2 k x y z r C (suc (suc v)) h = absurd (omega arith)
+code-bit-exec L r3 k x y z r C zero h = simp (C .codes 0 (lit< tt))
+code-bit-exec L r3 k x y z r C (suc zero) h = simp (C .codes 1 (lit< tt))
+code-bit-exec L r3 k x y z r C (suc (suc v)) h = absurd (omega arith)
 
 -- ---- scale, join, flip: on registers alone
 

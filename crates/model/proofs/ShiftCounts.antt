@@ -11,10 +11,11 @@ use Rattle.model.specs.declared.Opcode.{Opcode}
 use Rattle.model.specs.declared.Opcode.the-variants.{Nop, Jmp, Not, Mov, And, Orr, Xor, Lsl, Lsr, Add, Mul, Beq, Bne}
 use Rattle.model.specs.declared.Operand.{Operand}
 use Rattle.model.specs.declared.Operand.the-variants.{Literal}
+use Rattle.model.specs.Lines.{Every}
 use Rattle.model.specs.Step.{shiftBy, alu}
 use Rattle.model.specs.Expansion.{macro}
 use Rattle.model.proofs.Finite.{Pair, pair, agree}
-use Rattle.model.proofs.MacroLines.{Every, macro-lines}
+use Rattle.model.proofs.MacroLines.{macro-lines}
 
 -- ---- examples, by computation: in both directions and under either mark
 

@@ -9,7 +9,7 @@ use Rattle.model.specs.declared.Line.{Line}
 use Rattle.model.specs.Places.{State}
 use Rattle.model.specs.Step.{Row, row, next, after}
 use Rattle.model.specs.Run.{Ran, push, run}
-use Rattle.model.proofs.MacroLines.{Every}
+use Rattle.model.specs.Lines.{Every}
 use Rattle.model.proofs.Runs.{ran, joinRuns, step-run, run-zero}
 
 -- straight lines go on to the next line, whatever the state

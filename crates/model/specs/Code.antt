@@ -39,6 +39,10 @@ orrTable L = L .orr
 abbrev pub xorTable : Layout → ℕ
 xorTable L = L .xor
 
+-- where the codes of 0 and 1 stand, by which a public bit is coded (request 03): cells 496 and 497
+abbrev pub codeTable : ℕ
+codeTable = 240
+
 -- the cells of a table: all three are as long as the first, which ends where the second begins
 abbrev pub tableSize : Layout → ℕ
 tableSize L = L .orr
@@ -50,4 +54,6 @@ page L i =
     cond (ltb i (orrTable L)) (entry L And (i - andTable L))
     (cond (ltb i (xorTable L)) (entry L Orr (i - orrTable L))
     (cond (ltb i (xorTable L + tableSize L)) (entry L Xor (i - xorTable L))
-    0))
+    (cond (eqb i codeTable) (code L 0)
+    (cond (eqb i (codeTable + 1)) (code L 1)
+    0))))

@@ -16,10 +16,11 @@ use Rattle.model.specs.declared.Target.the-variants.{Empty as NoTarget, 
 use Rattle.model.specs.declared.Line.{Line}
 use Rattle.model.specs.declared.Layout.{Layout}
 use Rattle.model.specs.Answers.{counted, refused, Outcome, outcome, unlessRefused, atFront}
+use Rattle.model.specs.Places.{isPublic, kindOf}
 use Rattle.model.specs.Stored.{codes, lineCount, lines}
 use Rattle.model.specs.Marks.{markCheck}
 use Rattle.model.specs.Layouts.{neighbours}
-use Rattle.model.specs.Code.{code, andTable, orrTable, xorTable}
+use Rattle.model.specs.Code.{code, andTable, orrTable, xorTable, codeTable}
 
 -- a literal of a marked line, coded
 unfoldable pub coded : Layout → Operand → Operand
@@ -45,9 +46,15 @@ move d a = markedLine Mov d a Empty
 abbrev pub precharged : Operand → Operand → List Line
 precharged d a = move d (Register 0) ∷ move d a ∷ []
 
--- register n precharged and loaded
+-- a public place's byte in register n: its lowest bit, and the code of that (request 03)
+unfoldable pub codeBit : Bool → ℕ → List Line
+codeBit false n = []
+codeBit true n = markedLine And (Register n) (Register n) (Literal 1) ∷ move (Register n) (TableCell n codeTable) ∷ []
+
+-- register n precharged and loaded; the bit of a public place is coded there
 unfoldable pub load : ℕ → Operand → List Line
-load n a = precharged (Register n) a
+unfolding codeBit kindOf
+load n a = precharged (Register n) a ++ codeBit (isPublic (kindOf a)) n
 
 -- the first code shifted to its place in the index: by two bits, or by one where the bits are spaced
 unfoldable pub shifts : Bool → List Line

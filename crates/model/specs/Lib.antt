@@ -13,3 +13,4 @@ pub mod Marks
 pub mod Expansion
 pub mod Programs
 pub mod Claims
+pub mod Before

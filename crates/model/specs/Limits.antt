@@ -16,7 +16,7 @@ rowWidth = 6
 
 -- the most lines of a text or a stored program, and the greatest target
 abbrev pub maxLines : ℕ
-maxLines = 16384
+maxLines = 32768
 
 -- the most lines of an accepted program
 abbrev pub maxAccepted : ℕ
@@ -24,7 +24,7 @@ maxAccepted = 1024
 
 -- the most lines that one line expands to
 abbrev pub longest : ℕ
-longest = 13
+longest = 17
 
 -- the first bytes of a line among which its newline must be
 abbrev pub lineReach : ℕ

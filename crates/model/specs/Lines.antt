@@ -72,3 +72,8 @@ correct l = operandRight (fills (l .opcode) .destination) (l .destination) && no
 abbrev pub AllCorrect : List Line → Type 0
 AllCorrect [] = Unit {0}
 AllCorrect (l ∷ ls) = T (correct l) × AllCorrect ls
+
+-- P holds of every line
+abbrev pub Every : (Line → Type 0) → List Line → Type 0
+Every P [] = Unit {0}
+Every P (l ∷ ls) = P l × Every P ls

@@ -1,4 +1,5 @@
--- 'Where each check turns a thing down', the mark check: conditions 9 to 16, and the accepted programs.
+-- 'Where each check turns a thing down', the mark check: conditions 9 to 16, of which 13 no longer occurs
+-- (request 03), and the accepted programs.
 -- Assumes nothing.
 use mathlib.Core.Path.{_≡_}
 use mathlib.Core.Bool.{Bool, true, false, not, cond, _&&_, _||_}
@@ -99,10 +100,6 @@ unfolding readsSensitive hasSensitiveBase
 holds12 l = readsSensitive (l .mark) (l .first) (l .second)
     || (hasSensitiveBase (l .destination) || hasSensitiveBase (l .first) || hasSensitiveBase (l .second))
 
-unfoldable pub holds13 : Line → Bool
-unfolding kindOf
-holds13 l = isMarked (l .mark) && (isPublic (kindOf (l .first)) || isPublic (kindOf (l .second)))
-
 unfoldable pub holds14 : Line → Bool
 unfolding hasMacro
 holds14 l = isMarked (l .mark) && not (hasMacro (l .opcode))
@@ -117,16 +114,15 @@ holds16 n l = isAbove n (l .target)
 
 -- the lowest condition that holds of a line; 0 for none
 unfoldable pub markFault : ℕ → Line → ℕ
-unfolding holds10 holds11 holds12 holds13 holds14 holds15 holds16
+unfolding holds10 holds11 holds12 holds14 holds15 holds16
 markFault n l =
     cond (holds10 l) 10
     (cond (holds11 l) 11
     (cond (holds12 l) 12
-    (cond (holds13 l) 13
     (cond (holds14 l) 14
     (cond (holds15 l) 15
     (cond (holds16 n l) 16
-    0))))))
+    0)))))
 
 -- ---- the check of a program
 

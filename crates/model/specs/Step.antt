@@ -11,11 +11,12 @@ use Rattle.model.specs.declared.Mark.{Mark}
 use Rattle.model.specs.declared.Mark.the-variants.{Unmarked, Marked}
 use Rattle.model.specs.declared.Opcode.{Opcode}
 use Rattle.model.specs.declared.Opcode.the-variants.{Nop, Jmp, Not, Mov, And, Orr, Xor, Lsl, Lsr, Add, Mul, Beq, Bne}
+use Rattle.model.specs.declared.Kind.{Kind}
 use Rattle.model.specs.declared.Operand.{Operand}
 use Rattle.model.specs.declared.Target.{Target}
 use Rattle.model.specs.declared.Target.the-variants.{Empty as NoTarget, Line as ToLine}
 use Rattle.model.specs.declared.Line.{Line}
-use Rattle.model.specs.Places.{State, place, address, value}
+use Rattle.model.specs.Places.{State, isPublic, kindOf, place, address, value}
 
 -- the Hamming weight: the ones in a number
 abbrev pub weight : ℕ → ℕ
@@ -75,10 +76,16 @@ unfoldable pub targetLine : Target → ℕ
 targetLine NoTarget = 0
 targetLine (ToLine t) = t
 
--- an argument, as a line of that mark reads it: the mark changes nothing here
+-- what a byte of a place of that kind means as an argument in a line of that mark: in a marked line a public place means its lowest bit
+-- (request 03)
+unfoldable pub meaning : Mark → Kind → ℕ → ℕ
+meaning Unmarked k x = x
+meaning Marked k x = cond (isPublic k) (x % 2) x
+
+-- an argument, as a line of that mark reads it
 unfoldable pub argument : Mark → Operand → State → ℕ
-unfolding value
-argument m o s = value o s
+unfolding meaning kindOf value
+argument m o s = meaning m (kindOf o) (value o s)
 
 -- the parts of a step, all worked out from the state before the write: what is written,
 unfoldable pub result : Line → State → ℕ

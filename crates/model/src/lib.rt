@@ -9,11 +9,11 @@ pub const ROW_WIDTH: usize = 6;
 
 pub const STATE_SIZE: usize = 544;
 
-pub const MAX_LINES: usize = 16384;
+pub const MAX_LINES: usize = 32768;
 
 pub const MAX_ACCEPTED: usize = 1024;
 
-pub const LONGEST: usize = 13;
+pub const LONGEST: usize = 17;
 
 // Whether a line handles key bits: u is Unmarked, s is Marked.
 pub enum Mark {

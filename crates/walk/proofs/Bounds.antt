@@ -1,7 +1,7 @@
 -- Bounds: for each place a list of values that its set stays within. One step of the walk by what holds of all states within the bounds.
 -- Assumes nothing.
 use mathlib.Core.Path.{_≡_, sym, _∙_}
-use mathlib.Core.Bool.{Bool, true, false, cond}
+use mathlib.Core.Bool.{Bool, true, false, not, cond}
 use mathlib.Core.List.{List, [], _∷_}
 use mathlib.Core.Option.{none, some}
 use mathlib.Core.Logic.{_⊎_, inl, inr}
@@ -11,16 +11,18 @@ use native.Mathlib.Omega.{arith}
 use lib.Dec.{T, ltb}
 use lib.ListN.{length, getD, set, getElem?, List·getD-eq-default}
 use lib.Seq.{getD-set-same, getD-set-other}
+use Rattle.model.specs.declared.Mark.{Mark}
+use Rattle.model.specs.declared.Operand.{Operand}
 use Rattle.model.specs.declared.Line.{Line}
 use Rattle.model.specs.Limits.{stateSize}
-use Rattle.model.specs.Places.{State, place}
-use Rattle.model.specs.Step.{Row, row, result, next}
+use Rattle.model.specs.Places.{State, kindOf, place}
+use Rattle.model.specs.Step.{Row, meaning, row, result, next}
 use Rattle.model.proofs.TestLaws.{below}
 use Rattle.walk.specs.declared.Verdict.the-variants.{Balanced, Spent}
-use Rattle.walk.specs.Walk.{Sets, values, heads, base, branches, written, onto, ended, walk}
+use Rattle.walk.specs.Walk.{Sets, several, values, heads, base, branches, meanings, written, onto, ended, walk}
 use Rattle.walk.specs.Claims.{In, Drawn, Full}
-use Rattle.walk.proofs.Members.{few, single}
-use Rattle.walk.proofs.DrawnStates.{heads-drawn, written-in, written-once}
+use Rattle.walk.proofs.Members.{few, single, single-map, settled}
+use Rattle.walk.proofs.DrawnStates.{heads-drawn, drawn-in, written-in, written-once}
 use Rattle.walk.proofs.Sound.{One, onto-full, walk-zero, walk-none, Passed, Goes, walk-goes}
 
 abbrev pub Bound : Type 0
@@ -82,6 +84,14 @@ module _ {B : Bound} {S : Sets} (H : Under B S) where
       let v = getD (heads S) i 0 in
       below i stateSize (λ h. single (values S i) v (H .full .once i h) (λ x m. f x v (H .within i h x m) (heads-fit .each i h))) (past-one i)
 
+  -- an argument that is read at such a place means one thing
+  sole-meant : (m : Mark) (o : Operand) → Sole B (place o (heads S)) → T (not (several (meanings S m o)))
+  unfolding meanings
+  sole-meant m o h =
+      let i = place o (heads S) in
+      single-map (meaning m (kindOf o)) (values S i) (getD (heads S) i 0)
+      (λ x a. settled x (getD (heads S) i 0) (values S i) (sole-one i h) a (drawn-in S (H .full) (heads S) (heads-drawn S (H .full)) i))
+
   module _ {l : Line} {k q : ℕ} {Q : List ℕ} {ρ : Row} {j : ℕ} (D : Does B l k q Q ρ j) where
     does-written : (x : ℕ) → In x (written S l) → In x Q
     does-written x m = let r = written-in S l x (H .full) m in rw (r .2) (D .res (r .0) (fits (r .0) (r .1)))
@@ -92,8 +102,8 @@ module _ {B : Bound} {S : Sets} (H : Under B S) where
           settled = (
             sole-one (base (l .destination)) (D .aim),
             λ t. let g = D .args t (heads S) heads-fit in (
-              (sole-one (base (l .first)) (g .0 .0), sole-one (place (l .first) (heads S)) (g .0 .1)),
-              (sole-one (base (l .second)) (g .1 .0), sole-one (place (l .second) (heads S)) (g .1 .1)),
+              (sole-one (base (l .first)) (g .0 .0), sole-meant (l .mark) (l .first) (g .0 .1)),
+              (sole-one (base (l .second)) (g .1 .0), sole-meant (l .mark) (l .second) (g .1 .1)),
             ),
           );
           few = omega (arith, few (written S l) Q (written-once S l) does-written, D .count);

@@ -19,8 +19,8 @@ use Rattle.model.specs.declared.Operand.{Operand}
 use Rattle.model.specs.declared.Operand.the-variants.{Empty, Literal, Register, Cell, PublicCell, SensitiveCell, TableCell}
 use Rattle.model.specs.declared.Line.{Line}
 use Rattle.model.specs.Limits.{stateSize}
-use Rattle.model.specs.Places.{State, place, value, address}
-use Rattle.model.specs.Step.{Row, row, result, argument}
+use Rattle.model.specs.Places.{State, kindOf, place, value, address}
+use Rattle.model.specs.Step.{Row, meaning, row, result, argument}
 use Rattle.model.proofs.TestLaws.{below}
 use Rattle.walk.specs.Walk.{Sets, values, heads, base, involved, draw, choices, written, sameRow, allShow, steady}
 use Rattle.walk.specs.Claims.{In, Drawn, Once, Full, ExactSteps}
@@ -204,20 +204,21 @@ address-by (PublicCell r k) e s h = rw h
 address-by (SensitiveCell r k) e s h = rw h
 address-by (TableCell r k) e s h = rw h
 
-value-by : (o : Operand) (e s : State) → getD e (place o e) 0 ≡ getD s (place o s) 0 → value o e ≡ value o s
-unfolding value
-value-by Empty e s h = refl
-value-by (Literal n) e s h = refl
-value-by (Register n) e s h = h
-value-by (Cell n) e s h = h
-value-by (PublicCell r k) e s h = h
-value-by (SensitiveCell r k) e s h = h
-value-by (TableCell r k) e s h = h
+-- an argument is told by what the byte at its place means
+pub argument-by : (m : Mark) (o : Operand) (e s : State) → meaning m (kindOf o) (getD e (place o e) 0) ≡ meaning m (kindOf o) (getD s (place o s) 0)
+    → argument m o e ≡ argument m o s
+unfolding argument value
+argument-by m Empty e s h = refl
+argument-by m (Literal n) e s h = refl
+argument-by m (Register n) e s h = h
+argument-by m (Cell n) e s h = h
+argument-by m (PublicCell r k) e s h = h
+argument-by m (SensitiveCell r k) e s h = h
+argument-by m (TableCell r k) e s h = h
 
--- an argument is told by the mark, the operand and the byte at its place
-pub argument-by : (m : Mark) (o : Operand) (e s : State) → getD e (place o e) 0 ≡ getD s (place o s) 0 → argument m o e ≡ argument m o s
-unfolding argument
-argument-by m o e s h = value-by o e s h
+-- and so by that byte
+pub argument-byte : (m : Mark) (o : Operand) (e s : State) → getD e (place o e) 0 ≡ getD s (place o s) 0 → argument m o e ≡ argument m o s
+argument-byte m o e s h = argument-by m o e s (ap (meaning m (kindOf o)) h)
 
 -- e and s have the same value at the base of an operand, and at its place
 record ReadsAs (o : Operand) (e s : State) : Type 0 where
@@ -232,7 +233,7 @@ record Meets (l : Line) (e s : State) : Type 0 where
 
 meets-result : (l : Line) (e s : State) → Meets l e s → result l e ≡ result l s
 unfolding result
-meets-result l e s M = rw (argument-by (l .mark) (l .first) e s (M .first .byte), argument-by (l .mark) (l .second) e s (M .second .byte))
+meets-result l e s M = rw (argument-byte (l .mark) (l .first) e s (M .first .byte), argument-byte (l .mark) (l .second) e s (M .second .byte))
 
 meets-row : (l : Line) (k : ℕ) (e s : State) → Meets l e s → row l k e ≡ row l k s
 unfolding row

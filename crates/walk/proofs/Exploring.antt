@@ -22,7 +22,7 @@ use Rattle.walk.specs.Walk.{Sets, maxValues, insert, several, values, he
 use Rattle.walk.specs.Claims.{In}
 use Rattle.walk.specs.Gathering.{Gathered, firstRow, noted, visited, visitedAll, allAt, spot, argumentPlaces, Settled}
 use Rattle.walk.proofs.Members.{first-in, in-some, mem-in, by-member, in-insert, settled}
-use Rattle.walk.proofs.DrawnStates.{Among, heads-at, place-by, address-by, argument-by}
+use Rattle.walk.proofs.DrawnStates.{Among, heads-at, place-by, address-by, argument-byte}
 use Rattle.walk.proofs.Gathered.{Some, some-put, or-not-and}
 
 -- ---- narrowed sets
@@ -250,7 +250,7 @@ module _ (S : Sets) (l : Line) (k : ℕ) (Z : Settled S l argumentPlaces) (long 
     other i n = getD-set-other s q i v 0 (apart S i q n t)
 
     same-argument : (o : Operand) → T (not (several (values S (base o)))) → T (not (several (values S (place o s)))) → argument (l .mark) o (set s q v) ≡ argument (l .mark) o s
-    same-argument o b p = argument-by (l .mark) o (set s q v) s (rw (place-by o (set s q v) s (other (base o) b)) (other (place o s) p))
+    same-argument o b p = argument-byte (l .mark) o (set s q v) s (rw (place-by o (set s q v) s (other (base o) b)) (other (place o s) p))
 
     one-of : (j : ℕ) → j < argumentPlaces → T (not (several (values S (spot l j s))))
     one-of j h = Z .below j h

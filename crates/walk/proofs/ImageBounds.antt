@@ -9,13 +9,14 @@ use borrow.Author.Tests.{lt-ltb, le-ltb}
 use lib.Dec.{lit<, lit≤}
 use lib.ListN.{length, getD}
 use Rattle.model.specs.declared.Layout.{Layout}
+use Rattle.model.specs.declared.Mark.the-variants.{Marked}
 use Rattle.model.specs.declared.Operand.{Operand}
 use Rattle.model.specs.declared.Operand.the-variants.{Empty, Literal, Register, Cell, PublicCell, SensitiveCell, TableCell}
 use Rattle.model.specs.declared.Kind.the-variants.{Neither, Public, Sensitive}
 use Rattle.model.specs.Limits.{stateSize}
 use Rattle.model.specs.Layouts.{Known}
-use Rattle.model.specs.Places.{State, place, address, kind}
-use Rattle.model.specs.Step.{weight}
+use Rattle.model.specs.Places.{State, place, value, address, kind, kindOf}
+use Rattle.model.specs.Step.{weight, meaning, argument}
 use Rattle.model.specs.Code.{code, page}
 use Rattle.model.specs.Images.{byKind, fixed, SamePublic}
 use Rattle.model.proofs.PlaceLaws.{public-register, table-cell}
@@ -117,6 +118,11 @@ Scratch r = (1 ≤ r) × (r ≤ 3)
 pub scratch-kind : (r : ℕ) → Scratch r → kind r ≡ Neither
 unfolding kind
 scratch-kind r h = rw (lt-ltb r 4 (omega arith))
+
+-- what it holds is read whole
+pub scratch-read : (r : ℕ) → Scratch r → (s : State) → argument Marked (Register r) s ≡ getD s r 0
+unfolding argument meaning kindOf value place
+scratch-read r h s = rw (scratch-kind r h)
 
 pub scratch-public : (r : ℕ) → Scratch r → kind r ≡ Public → ⊥
 scratch-public r h p = let n = scratch-kind r h in let z : _≡_ {A = ℕ} 0 1 = cc in omega arith

@@ -1,13 +1,13 @@
 -- The macros under the walk, piece by piece: no leak and no refusal at any line, and images are left. Assumes nothing.
-use mathlib.Core.Path.{_≡_, refl}
+use mathlib.Core.Path.{_≡_, refl, sym, ap}
 use mathlib.Core.Bool.{Bool, true, false}
 use mathlib.Core.List.{List, [], _∷_}
 use mathlib.Core.Logic.{inl}
-use Prim.Native.Nat.{ℕ, _+_, _%_, _<_}
+use Prim.Native.Nat.{ℕ, _+_, _%_, _≤_, _<_}
 use native.Mathlib.Omega.{arith}
 use lib.Count.{ones}
 use lib.Dec.{lit<, lit≤}
-use lib.ListN.{getD}
+use lib.ListN.{length, getD}
 use Rattle.model.specs.declared.Layout.{Layout}
 use Rattle.model.specs.declared.Mark.the-variants.{Marked}
 use Rattle.model.specs.declared.Opcode.{Opcode}
@@ -17,20 +17,21 @@ use Rattle.model.specs.declared.Operand.the-variants.{Empty, Literal, Register,
 use Rattle.model.specs.declared.Line.{Line}
 use Rattle.model.specs.Layouts.{Known}
 use Rattle.model.specs.Lines.{fills}
-use Rattle.model.specs.Places.{State, place, value, address}
-use Rattle.model.specs.Step.{alu, argument, taken, weight, distance}
+use Rattle.model.specs.Places.{State, isPublic, kindOf, place, value, address}
+use Rattle.model.specs.Step.{alu, meaning, argument, taken, weight, distance}
 use Rattle.model.specs.Code.{code}
 use Rattle.model.specs.Marks.{hasMacro}
-use Rattle.model.specs.Expansion.{coded, markedLine, precharged, load, shifts, scale, combine, fetch, flip, writeBack, lookup, negate, copy, macro}
+use Rattle.model.specs.Expansion.{coded, markedLine, precharged, codeBit, load, shifts, scale, combine, fetch, flip, writeBack, lookup, negate, copy, macro}
 use Rattle.model.proofs.PlaceLaws.{apart}
-use Rattle.model.proofs.Operands.{SensitivePlace, SensitiveArgument, steady-place, sensitive-of, value-at}
+use Rattle.model.proofs.Operands.{SensitivePlace, SensitiveArgument, PublicOperand, MarkedArgument, public-bit, sensitive-bit, steady-place, steady-public, sensitive-of, value-at, value-same}
+use Rattle.model.proofs.Loads.{coded-kind, coded-public}
 use Rattle.model.proofs.Acceptance.{MarkedOperands}
 use Rattle.model.proofs.Finite.{tableAt, tableOp, tableWeight, low, twice, shifted, scaled, joinedIndex, flipped, slot, low-weight, low-distance, twice-weight, twice-distance, twice-twice-weight, twice-twice-distance, flipped-weight, flipped-distance, flipped-code, not-bit, index-weight, index-distance, slot-low, slot-weight, slot-holds, table-bit}
 use Rattle.walk.specs.Claims.{In}
 use Rattle.walk.proofs.Bounds.{Bound, Fits}
 use Rattle.walk.proofs.Chains.{put, put-other}
-use Rattle.walk.proofs.ImageBounds.{ofBits, each-bits, ofBit, codes, code-in, single-even, codes-even, address-fixed, Scratch, scratch-public, Ready, public-in, sensitive-in, page-in, ready-scratch, ready-sensitive}
-use Rattle.walk.proofs.Steps.{Led, _then_, Holds, works, precharge}
+use Rattle.walk.proofs.ImageBounds.{ofBits, each-bits, ofBit, codes, code-in, Even, single-even, codes-even, same-of, address-fixed, Scratch, scratch-read, scratch-public, Ready, public-in, sensitive-in, page-in, ready-scratch, ready-sensitive}
+use Rattle.walk.proofs.Steps.{Led, _then_, Holds, works, precharge, code-bit}
 
 r1 : Scratch 1
 r1 = omega arith
@@ -46,37 +47,47 @@ module _ (L : Layout) (K : Known L) (U : State) where
 
   -- what an argument of a marked line reads, and where
   module _ {B : Bound} (R : Ready L U B) (s : State) (F : Fits B s) where
-    place-source : (a : Operand) → SensitivePlace a → In (argument Marked a s) (codes L) × (weight (address a s) ≡ weight (address a U))
-    unfolding argument
-    place-source a h =
+    place-source : (a : Operand) → isPublic (kindOf a) ≡ false → SensitivePlace a → In (argument Marked a s) (codes L) × (weight (address a s) ≡ weight (address a U))
+    unfolding argument meaning
+    place-source a p h =
         let o = sensitive-of a h s in
-        (rw (value-at a h s) (sensitive-in R (place a s) o (getD s (place a s) 0) (F .each (place a s) (o .within))), address-fixed (public-in R) a (steady-place a h) s F)
+        (rw (p, value-at a h s) (sensitive-in R (place a s) o (getD s (place a s) 0) (F .each (place a s) (o .within))), address-fixed (public-in R) a (steady-place a h) s F)
 
-    source : (a : Operand) → SensitiveArgument a → In (argument Marked (coded L a) s) (codes L) × (weight (address (coded L a) s) ≡ weight (address a U))
+    source : (a : Operand) → isPublic (kindOf a) ≡ false → SensitiveArgument a → In (argument Marked (coded L a) s) (codes L) × (weight (address (coded L a) s) ≡ weight (address a U))
     unfolding coded argument value address
-    source Empty h = absurd h
-    source (Literal n) h = (code-in L n (omega arith), refl)
-    source (Register n) h = place-source (Register n) h
-    source (Cell n) h = place-source (Cell n) h
-    source (PublicCell r k) h = absurd h
-    source (SensitiveCell r k) h = place-source (SensitiveCell r k) h
-    source (TableCell r k) h = absurd h
+    source Empty p h = absurd h
+    source (Literal n) p h = (code-in L n (omega arith), refl)
+    source (Register n) p h = place-source (Register n) p h
+    source (Cell n) p h = place-source (Cell n) p h
+    source (PublicCell r k) p h = absurd h
+    source (SensitiveCell r k) p h = place-source (SensitiveCell r k) p h
+    source (TableCell r k) p h = absurd h
+
+    -- a public place has the value that it has in U
+    public-source : (a : Operand) → PublicOperand a → In (argument Marked a s) (argument Marked a U ∷ []) × (weight (address a s) ≡ weight (address a U))
+    unfolding argument
+    public-source a h = (inl (ap (meaning Marked (kindOf a)) (sym (value-same U s (same-of (public-in R) s F) a h))), address-fixed (public-in R) a (steady-public a h) s F)
 
   module _ {B : Bound} (R : Ready L U B) where
-    -- a scratch register precharged, and loaded with a code
-    charges : (r : ℕ) → Scratch r → (a : Operand) (u : ℕ) → ((s : State) → Fits (put r (0 ∷ []) B) s → In (argument Marked a s) (codes L) × (weight (address a s) ≡ u))
-        → Led L U B (precharged (Register r) a) (put r (codes L) B)
+    -- a scratch register precharged, and loaded with one of Q
+    charges : (r : ℕ) → Scratch r → (a : Operand) (Q : List ℕ) (u : ℕ) → Even Q → length Q ≤ 16
+        → ((s : State) → Fits (put r (0 ∷ []) B) s → In (argument Marked a s) Q × (weight (address a s) ≡ u)) → Led L U B (precharged (Register r) a) (put r Q B)
     unfolding place
-    charges r h a u src =
-        let E = codes-even L K in
-        record { chain = precharge R (Register r) a (codes L) u tt (scratch-public r h) (omega arith) (R .even r h) E (lit≤ tt) src; ready = ready-scratch R r (codes L) h E }
+    charges r h a Q u E few src =
+        record { chain = precharge R (Register r) a Q u tt (scratch-public r h) (omega arith) (R .even r h) E few src; ready = ready-scratch R r Q h E }
 
-    loads : (r : ℕ) → Scratch r → (a : Operand) → SensitiveArgument a → Led L U B (load r (coded L a)) (put r (codes L) B)
-    unfolding load
-    loads r h a g = charges r h (coded L a) (weight (address a U)) (λ s F. source (ready-scratch R r (0 ∷ []) h (single-even 0)) s F a g)
+    loads : (r : ℕ) → Scratch r → (a : Operand) → MarkedArgument a → Led L U B (load r (coded L a)) (put r (codes L) B)
+    unfolding load codeBit argument meaning
+    loads r h a (sensitive-bit p g) =
+        rw (coded-kind L a, p) (charges r h (coded L a) (codes L) (weight (address a U)) (codes-even L K) (lit≤ tt) (λ s F. source (ready-scratch R r (0 ∷ []) h (single-even 0)) s F a p g))
+    loads r h a (public-bit p g) =
+        let v = argument Marked a U in
+        let low : v < 2 = rw p (omega arith) in
+        rw (coded-public L a p, p) (charges r h a (v ∷ []) (weight (address a U)) (single-even v) (lit≤ tt) (λ s F. public-source (ready-scratch R r (0 ∷ []) h (single-even 0)) s F a g)
+        then code-bit K R r h v low)
 
     stores : (r : ℕ) → Scratch r → Holds B r (codes L) → (d : Operand) → SensitivePlace d → Led L U B (writeBack r d) (put (place d U) (codes L) B)
-    unfolding writeBack argument value place address ones
+    unfolding writeBack place address ones
     stores r h c d g =
         let q = place d U in
         let o = sensitive-of d g U in
@@ -84,7 +95,7 @@ module _ (L : Layout) (K : Known L) (U : State) where
         record {
           chain = precharge R d (Register r) (codes L) 0 (steady-place d g) (λ p. apart p (o .is)) (o .within)
               (record { count = E .count; each = λ x m. E .each x (sensitive-in R q o x m) }) E (lit≤ tt)
-              (λ s F. (c (getD s r 0) (rw (put-other q (0 ∷ []) B r (λ e. omega (arith, o .past))) at (F .each r (omega arith))), refl));
+              (λ s F. (rw (scratch-read r h s) (c (getD s r 0) (rw (put-other q (0 ∷ []) B r (λ e. omega (arith, o .past))) at (F .each r (omega arith)))), refl));
           ready = ready-sensitive R q (o .is) E;
         }
 
@@ -121,7 +132,7 @@ module _ (L : Layout) (K : Known L) (U : State) where
     fetches : (o : ℕ) → o < 3 → Holds B 1 (ofBits index) → Led L U B (fetch (tableAt L o)) (put 3 (codes L) B)
     unfolding fetch argument value place address
     fetches o h c =
-        charges R 3 r3 (TableCell 1 (tableAt L o)) (tableWeight o) (λ s F.
+        charges R 3 r3 (TableCell 1 (tableAt L o)) (codes L) (tableWeight o) (codes-even L K) (lit≤ tt) (λ s F.
         each-bits index (λ x. In (getD s (288 + (x + tableAt L o) % 256) 0) (codes L) × (weight (256 + (x + tableAt L o) % 256) ≡ tableWeight o))
         (λ a b ha hb.
         let i = slot L o a b in
@@ -159,20 +170,20 @@ module _ (L : Layout) (K : Known L) (U : State) where
   flipped-codes = each-bits (λ a b. flipped L (code L a)) (λ x. In x (codes L)) (λ a b ha hb. rw (flipped-code L K a ha) (code-in L (alu Marked Not a 0) (not-bit L K a ha)))
 
   module _ {B : Bound} (R : Ready L U B) (d : Operand) (hd : SensitivePlace d) where
-    copy-passes : (a : Operand) → SensitiveArgument a → Passes B (copy d (coded L a))
+    copy-passes : (a : Operand) → MarkedArgument a → Passes B (copy d (coded L a))
     unfolding copy
     copy-passes a ha =
         let l = loads R 3 r3 a ha in
         (_, l then stores (l .ready) 3 r3 (λ x m. m) d hd)
 
-    negate-passes : (a : Operand) → SensitiveArgument a → Passes B (negate L d (coded L a))
+    negate-passes : (a : Operand) → MarkedArgument a → Passes B (negate L d (coded L a))
     unfolding negate
     negate-passes a ha =
         let l = loads R 1 r1 a ha in
         let f = flips (l .ready) (λ x m. m) in
         (_, l then f then stores (f .ready) 1 r1 flipped-codes d hd)
 
-    lookup-passes : (o : ℕ) → o < 3 → (a b : Operand) → SensitiveArgument a → SensitiveArgument b → Passes B (lookup L (tableAt L o) d (coded L a) (coded L b))
+    lookup-passes : (o : ℕ) → o < 3 → (a b : Operand) → MarkedArgument a → MarkedArgument b → Passes B (lookup L (tableAt L o) d (coded L a) (coded L b))
     unfolding lookup
     lookup-passes o h a b ha hb =
         let l = loads R 1 r1 a ha in

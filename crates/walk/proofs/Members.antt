@@ -1,9 +1,9 @@
 -- Sets as lists: what is in them, each value once, and how many there are.
 -- Assumes nothing.
-use mathlib.Core.Path.{_≡_, refl, sym, _∙_}
+use mathlib.Core.Path.{_≡_, refl, sym, ap, _∙_}
 use mathlib.Core.Bool.{Bool, true, false, not, cond, _||_}
-use mathlib.Core.List.{List, [], _∷_, _++_, List·Memᴰ, List·Memᴰ·head, List·Memᴰ·tail}
-use mathlib.Core.List.{Memᴰ·append-left, Memᴰ·append-right, List·Memᴰ·append-cases, List·Memᴰ·eq-of-singleton}
+use mathlib.Core.List.{List, [], _∷_, _++_, map, List·Memᴰ, List·Memᴰ·head, List·Memᴰ·tail}
+use mathlib.Core.List.{Memᴰ·append-left, Memᴰ·append-right, List·Memᴰ·append-cases, List·Memᴰ·eq-of-singleton, Memᴰ·map, Memᴰ·of-map}
 use mathlib.Core.Logic.{_⊎_, inl, inr, ⊎-elim}
 use Prim.Native.Nat.{ℕ, suc, _≤_, _<_}
 use native.Mathlib.Omega.{arith}
@@ -138,10 +138,24 @@ few (x ∷ xs) q o h =
     let others : (y : ℕ) → In y xs → In y (without x q) = λ y m. in-without x y q (λ r. o .0 (rw r at m)) (h y (inr m)) in
     omega (arith, few xs (without x q) (o .1) others, without-length x q (h x (inl refl)))
 
+-- ---- what a function makes of the members
+
+pub in-map : (f : ℕ → ℕ) (y : ℕ) (xs : List ℕ) → In y xs → In (f y) (map f xs)
+in-map f y xs m = mem-in (Memᴰ·map f (in-mem y xs m))
+
+pub map-in : (f : ℕ → ℕ) (x : ℕ) (xs : List ℕ) → In x (map f xs) → (y : ℕ) × In y xs × (x ≡ f y)
+map-in f x xs m = let r = Memᴰ·of-map f xs (in-mem x (map f xs) m) in (r .0, mem-in (r .1), sym (r .2))
+
 -- ---- several values, or one
 
 pub single : (xs : List ℕ) (v : ℕ) → Once xs → ((x : ℕ) → In x xs → x ≡ v) → T (not (several xs))
 single xs v o h = rw (le-ltb 1 (length xs) (few xs (v ∷ []) o (λ x m. inl (h x m)))) tt
+
+-- of members of one value alone a function makes one
+pub single-map : (f : ℕ → ℕ) (xs : List ℕ) (v : ℕ) → ((x : ℕ) → In x xs → x ≡ v) → T (not (several (distinct (map f xs))))
+single-map f xs v h =
+    single (distinct (map f xs)) (f v) (once-distinct (map f xs))
+    (λ x m. let r = map-in f x xs (distinct-in x (map f xs) m) in r .2 ∙ ap f (h (r .0) (r .1)))
 
 pub settled : (x y : ℕ) (xs : List ℕ) → T (not (several xs)) → In x xs → In y xs → x ≡ y
 settled x y [] h a b = absurd a

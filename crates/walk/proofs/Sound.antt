@@ -2,7 +2,7 @@
 -- Assumes nothing.
 use mathlib.Core.Path.{_≡_, refl, ap, _∙_, subst}
 use mathlib.Core.Bool.{Bool, true, false, not, cond, _&&_, _||_}
-use mathlib.Core.List.{List, [], _∷_}
+use mathlib.Core.List.{List, [], _∷_, map}
 use mathlib.Core.Option.{Option, none, some}
 use mathlib.Core.Logic.{_↔_}
 use Prim.Native.Nat.{ℕ, zero, suc, _+_, _≤_, _<_}
@@ -18,15 +18,15 @@ use Rattle.model.specs.declared.Opcode.the-variants.{Nop, Jmp, Not, Mov, And, O
 use Rattle.model.specs.declared.Operand.{Operand}
 use Rattle.model.specs.declared.Line.{Line}
 use Rattle.model.specs.Limits.{stateSize}
-use Rattle.model.specs.Places.{State, place}
-use Rattle.model.specs.Step.{Row, row, result, next, after, argument, taken, targetLine}
+use Rattle.model.specs.Places.{State, kindOf, place}
+use Rattle.model.specs.Step.{Row, row, result, next, after, meaning, argument, taken, targetLine}
 use Rattle.model.specs.Run.{run}
 use Rattle.model.proofs.Runs.{ran, stopped, step-run, run-zero}
 use Rattle.walk.specs.declared.Verdict.{Verdict}
 use Rattle.walk.specs.declared.Verdict.the-variants.{Balanced, Spent, Leak, Refused}
-use Rattle.walk.specs.Walk.{Sets, maxValues, several, values, heads, base, branches, loose, unsettled, written, steady, onto, ended, walk}
+use Rattle.walk.specs.Walk.{Sets, maxValues, several, values, distinct, heads, base, branches, meanings, loose, unsettled, written, steady, onto, ended, walk}
 use Rattle.walk.specs.Claims.{In, Drawn, Full}
-use Rattle.walk.proofs.Members.{in-some, settled}
+use Rattle.walk.proofs.Members.{in-some, in-distinct, in-map, settled}
 use Rattle.walk.proofs.DrawnStates.{heads-drawn, drawn-in, full-set, place-by, argument-by, in-written, written-once, by-steady, steady-row}
 
 -- ---- 21 does not hold
@@ -35,13 +35,13 @@ use Rattle.walk.proofs.DrawnStates.{heads-drawn, drawn-in, full-set, pl
 abbrev pub One : Sets → ℕ → Type 0
 One S i = T (not (several (values S i)))
 
--- an argument and its base have one value each
-abbrev pub Firm : Sets → Operand → Type 0
-Firm S o = One S (base o) × One S (place o (heads S))
+-- an argument of a line of that mark and its base have one value each
+abbrev pub Firm : Sets → Mark → Operand → Type 0
+Firm S m o = One S (base o) × T (not (several (meanings S m o)))
 
 -- so have the base of the destination, and the arguments of a branch
 abbrev pub Settled : Sets → Line → Type 0
-Settled S l = One S (base (l .destination)) × (T (branches (l .opcode)) → Firm S (l .first) × Firm S (l .second))
+Settled S l = One S (base (l .destination)) × (T (branches (l .opcode)) → Firm S (l .mark) (l .first) × Firm S (l .mark) (l .second))
 
 nor : (a b : Bool) → T (not (a || b)) ↔ (T (not a) × T (not b))
 nor true b = (λ h. absurd h, λ h. absurd (h .0))
@@ -51,19 +51,19 @@ nand : (a b : Bool) → T (not (a && b)) ↔ (T a → T (not b))
 nand true b = (λ h t. h, λ f. f tt)
 nand false b = (λ h t. absurd t, λ f. tt)
 
-not-loose : (S : Sets) (o : Operand) → T (not (loose S o)) ↔ Firm S o
+not-loose : (S : Sets) (m : Mark) (o : Operand) → T (not (loose S m o)) ↔ Firm S m o
 unfolding loose
-not-loose S o = nor (several (values S (base o))) (several (values S (place o (heads S))))
+not-loose S m o = nor (several (values S (base o))) (several (meanings S m o))
 
 pub not-unsettled : (S : Sets) (l : Line) → T (not (unsettled S l)) ↔ Settled S l
 unfolding unsettled
 not-unsettled S l =
-    let a = loose S (l .first) in
-    let b = loose S (l .second) in
+    let a = loose S (l .mark) (l .first) in
+    let b = loose S (l .mark) (l .second) in
     let parts = nor (several (values S (base (l .destination)))) (branches (l .opcode) && (a || b)) in
     let branch = nand (branches (l .opcode)) (a || b) in (
-      λ h. (parts .0 h .0, λ t. let w = nor a b .0 (branch .0 (parts .0 h .1) t) in (not-loose S (l .first) .0 (w .0), not-loose S (l .second) .0 (w .1))),
-      λ h. parts .1 (h .0, branch .1 (λ t. nor a b .1 (not-loose S (l .first) .1 (h .1 t .0), not-loose S (l .second) .1 (h .1 t .1)))),
+      λ h. (parts .0 h .0, λ t. let w = nor a b .0 (branch .0 (parts .0 h .1) t) in (not-loose S (l .mark) (l .first) .0 (w .0), not-loose S (l .mark) (l .second) .0 (w .1))),
+      λ h. parts .1 (h .0, branch .1 (λ t. nor a b .1 (not-loose S (l .mark) (l .first) .1 (h .1 t .0), not-loose S (l .mark) (l .second) .1 (h .1 t .1)))),
     )
 
 -- ---- so the line writes one place and goes to one line
@@ -88,9 +88,15 @@ module _ (S : Sets) (F : Full S) (s : State) (D : Drawn S s) where
   one-value : (i : ℕ) → One S i → getD s i 0 ≡ getD (heads S) i 0
   one-value i h = settled (getD s i 0) (getD (heads S) i 0) (values S i) h (drawn-in S F s D i) (drawn-in S F (heads S) (heads-drawn S F) i)
 
-  firm-argument : (m : Mark) (o : Operand) → Firm S o → argument m o s ≡ argument m o (heads S)
+  firm-argument : (m : Mark) (o : Operand) → Firm S m o → argument m o s ≡ argument m o (heads S)
+  unfolding meanings
   firm-argument m o h =
-      argument-by m o s (heads S) (rw (place-by o s (heads S) (one-value (base o) (h .0))) (one-value (place o (heads S)) (h .1)))
+      let q = place o (heads S) in
+      let f = meaning m (kindOf o) in
+      let meant : (x : ℕ) → In x (values S q) → In (f x) (distinct (map f (values S q))) = λ x g. in-distinct (f x) (map f (values S q)) (in-map f x (values S q) g) in
+      argument-by m o s (heads S) (rw (place-by o s (heads S) (one-value (base o) (h .0)))
+      (settled (f (getD s q 0)) (f (getD (heads S) q 0)) (distinct (map f (values S q))) (h .1)
+      (meant (getD s q 0) (drawn-in S F s D q)) (meant (getD (heads S) q 0) (drawn-in S F (heads S) (heads-drawn S F) q))))
 
   settled-next : (l : Line) (k : ℕ) → Settled S l → next l k s ≡ next l k (heads S)
   unfolding next

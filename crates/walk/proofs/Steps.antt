@@ -2,33 +2,37 @@
 -- more is known than their bounds: a register is independent of the place that it was loaded from, so the macros' runs say nothing here.
 -- Assumes nothing.
 use mathlib.Core.Path.{_≡_, refl, _∙_, subst}
-use mathlib.Core.Bool.{false, not}
+use mathlib.Core.Bool.{true, false, not}
 use mathlib.Core.List.{List, [], _∷_, _++_}
 use mathlib.Core.Logic.{inl}
-use Prim.Native.Nat.{ℕ, _≤_, _<_}
+use Prim.Native.Nat.{ℕ, zero, suc, _+_, _%_, _≤_, _<_}
 use native.Mathlib.Omega.{arith}
+use lib.Bits.{bitAnd}
 use lib.Count.{ones}
 use lib.Dec.{T, T-not, lit≤}
 use lib.ListN.{length, getD}
 use Rattle.model.specs.declared.Layout.{Layout}
 use Rattle.model.specs.declared.Mark.the-variants.{Marked}
 use Rattle.model.specs.declared.Opcode.{Opcode}
-use Rattle.model.specs.declared.Opcode.the-variants.{Mov}
+use Rattle.model.specs.declared.Opcode.the-variants.{Mov, And}
 use Rattle.model.specs.declared.Operand.{Operand}
-use Rattle.model.specs.declared.Operand.the-variants.{Empty, Register}
+use Rattle.model.specs.declared.Operand.the-variants.{Empty, Literal, Register, TableCell}
 use Rattle.model.specs.declared.Line.{Line}
 use Rattle.model.specs.declared.Kind.the-variants.{Public}
 use Rattle.model.specs.Limits.{stateSize}
 use Rattle.model.specs.Places.{State, place, value, address, kind}
 use Rattle.model.specs.Step.{row, result, next, alu, argument, taken, weight, distance}
-use Rattle.model.specs.Expansion.{markedLine, precharged}
+use Rattle.model.specs.Layouts.{Known}
+use Rattle.model.specs.Code.{code, codeTable}
+use Rattle.model.specs.Expansion.{markedLine, precharged, codeBit}
 use Rattle.model.proofs.Operands.{Steady}
+use Rattle.model.proofs.Finite.{code-stands}
 use Rattle.model.proofs.Pieces.{six, distance-zero}
 use Rattle.walk.specs.Walk.{base, branches}
 use Rattle.walk.specs.Claims.{In}
 use Rattle.walk.proofs.Bounds.{Bound, Fits, Sole, sole-past, Turns}
 use Rattle.walk.proofs.Chains.{put, put-same, turn-put, turn-again, Step, Chain, end, line, chain-append}
-use Rattle.walk.proofs.ImageBounds.{ofBits, each-bits, in-bits, ofBit, sole-of, Even, single-even, bits-even, shown-put, place-fixed, address-fixed, base-sole, Scratch, Ready, zero-at, public-in, ready-scratch}
+use Rattle.walk.proofs.ImageBounds.{ofBits, each-bits, in-bits, ofBit, codes, code-in, sole-of, Even, single-even, bits-even, codes-even, shown-put, place-fixed, address-fixed, base-sole, Scratch, scratch-read, Ready, zero-at, page-in, public-in, ready-scratch}
 
 -- an opcode that goes on to the next line
 abbrev Onward : Opcode → Type 0
@@ -88,13 +92,13 @@ module _ (op : Opcode) (f g : ℕ → ℕ) (w h : ℕ) (n : (a b : ℕ) → a < 
   pub works : {L : Layout} {U : State} {B : Bound} → Ready L U B → (r : ℕ) (o : Operand) → Onward op → Scratch r → Holds B r (ofBit f)
       → ((s : State) → Fits B s → In (argument Marked o s) (ofBit g) × (weight (address o s) ≡ 0))
       → Led L U B (markedLine op (Register r) (Register r) o ∷ []) (put r (ofBits (made op f g)) B)
-  unfolding result argument value place address ones base
+  unfolding result place address ones base
   works {B = B} R r o on sc c e =
       let Q = ofBits (made op f g) in
       let E = bits-even (made op f g) w (λ a b ha hb. n a b ha hb .0) in
       record {
         chain = line (marked-step op (Register r) (Register r) o r Q h 0 0 0 on (sole-past B stateSize (lit≤ tt)) E (lit≤ tt) turn-put
-            (λ s F. let m = made-in (getD s r 0) (argument Marked o s) (c (getD s r 0) (F .each r (omega arith))) (e s F .0) in (refl, m .0, m .1, refl, e s F .1, refl))) end;
+            (λ s F. let m = made-in (getD s r 0) (argument Marked o s) (c (getD s r 0) (F .each r (omega arith))) (e s F .0) in rw (scratch-read r sc s) (refl, m .0, m .1, refl, e s F .1, refl))) end;
         ready = ready-scratch R r Q sc E;
       }
 
@@ -116,3 +120,33 @@ precharge {U = U} {B = B} R d a Q u st np wi old E few src =
     (line (marked-step Mov d a Empty q Q (E .count) u 0 w (tt, λ x y. refl) (base-sole S′ d st) E few (turn-again B q (0 ∷ []) Q)
     (λ s F. (place-fixed S′ d st s F, src s F .0, rw (emptied s F) (E .each (argument Marked a s) (src s F .0)), src s F .1, refl, address-fixed S′ d st s F)))
     end)
+
+-- ---- a public bit in a scratch register, coded
+
+pub code-bit : {L : Layout} {U : State} {B : Bound} → Known L → Ready L U B → (r : ℕ) → Scratch r → (v : ℕ) → v < 2 → Led L U (put r (v ∷ []) B) (codeBit true r) (put r (codes L) B)
+unfolding codeBit result alu taken place address base ones
+code-bit {L = L} {U = U} {B = B} K R r sc v h =
+    let X = put r (v ∷ []) B in
+    let E = codes-even L K in
+    let holds : (s : State) → Fits X s → getD s r 0 ≡ v = λ s F. sole-of (getD s r 0) v (subst (In (getD s r 0)) (put-same r (v ∷ []) B) (F .each r (omega arith))) in
+    let coded : (s : State) → Fits X s → argument Marked (TableCell r codeTable) s ≡ code L v = λ s F. rw (holds s F) (entry s F) in
+    record {
+      chain = line (marked-step And (Register r) (Register r) (Literal 1) r (v ∷ []) (distance v v) 0 0 0 (tt, λ x y. refl) (sole-past X stateSize (lit≤ tt)) (single-even v) (lit≤ tt)
+          (turn-again B r (v ∷ []) (v ∷ []))
+          (λ s F. rw (scratch-read r sc s, holds s F, low v h) (refl, inl refl, refl, refl, refl, refl)))
+          (line (marked-step Mov (Register r) (TableCell r codeTable) Empty r (codes L) (distance v (code L v)) (weight (256 + (v + codeTable) % 256)) 0 0 (tt, λ x y. refl)
+          (sole-past X stateSize (lit≤ tt)) E (lit≤ tt) (turn-again B r (v ∷ []) (codes L))
+          (λ s F. rw (coded s F, holds s F) (refl, code-in L v h, refl, refl, refl, refl)))
+          end);
+      ready = ready-scratch R r (codes L) sc E;
+    }
+  where
+    low : (v : ℕ) → v < 2 → bitAnd v 1 ≡ v
+    low zero h = refl
+    low (suc zero) h = refl
+    low (suc (suc v)) h = absurd (omega arith)
+
+    entry : (s : State) → Fits (put r (v ∷ []) B) s → getD s (288 + (v + codeTable) % 256) 0 ≡ code L v
+    entry s F =
+        let i : (v + codeTable) % 256 ≡ codeTable + v = omega arith in
+        rw i (page-in (ready-scratch R r (v ∷ []) sc (single-even v)) (codeTable + v) (omega arith) (getD s (288 + (codeTable + v)) 0) (F .each (288 + (codeTable + v)) (omega arith)) ∙ code-stands L K v h)

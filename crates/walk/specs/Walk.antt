@@ -6,6 +6,7 @@ use mathlib.Core.Option.{none, some}
 use Prim.Native.Nat.{ℕ, zero, suc, _*_}
 use lib.Dec.{eqb, ltb, leb}
 use lib.ListN.{length, getD, set, take, drop, getElem?}
+use Rattle.model.specs.declared.Mark.{Mark}
 use Rattle.model.specs.declared.Opcode.{Opcode}
 use Rattle.model.specs.declared.Opcode.the-variants.{Nop, Jmp, Not, Mov, And, Orr, Xor, Lsl, Lsr, Add, Mul, Beq, Bne}
 use Rattle.model.specs.declared.Operand.{Operand}
@@ -13,8 +14,8 @@ use Rattle.model.specs.declared.Operand.the-variants.{Empty, Literal, Register,
 use Rattle.model.specs.declared.Line.{Line}
 use Rattle.model.specs.Limits.{stateSize}
 use Rattle.model.specs.Answers.{Report, done, refused, andThen}
-use Rattle.model.specs.Places.{State, place}
-use Rattle.model.specs.Step.{Row, row, result, next}
+use Rattle.model.specs.Places.{State, kindOf, place}
+use Rattle.model.specs.Step.{Row, meaning, row, result, next}
 use Rattle.model.specs.Stored.{lines, programCheck}
 use Rattle.walk.specs.declared.Verdict.{Verdict}
 use Rattle.walk.specs.declared.Verdict.the-variants.{Balanced, Spent, Leak, Refused}
@@ -128,15 +129,20 @@ branches Mul = false
 branches Beq = true
 branches Bne = true
 
+-- what an argument may mean in a line of that mark, each value once: in a marked line the lowest bits of a public place's (request 03)
+unfoldable pub meanings : Sets → Mark → Operand → List ℕ
+unfolding insertAll meaning kindOf place
+meanings S m o = distinct (map (meaning m (kindOf o)) (values S (place o (heads S))))
+
 -- an argument or its base has several values
-unfoldable pub loose : Sets → Operand → Bool
-unfolding base place
-loose S o = several (values S (base o)) || several (values S (place o (heads S)))
+unfoldable pub loose : Sets → Mark → Operand → Bool
+unfolding base meanings
+loose S m o = several (values S (base o)) || several (meanings S m o)
 
 -- 21: a branch argument, its base or a destination's base has several values
 unfoldable pub unsettled : Sets → Line → Bool
 unfolding base loose
-unsettled S l = several (values S (base (l .destination))) || (branches (l .opcode) && (loose S (l .first) || loose S (l .second)))
+unsettled S l = several (values S (base (l .destination))) || (branches (l .opcode) && (loose S (l .mark) (l .first) || loose S (l .mark) (l .second)))
 
 -- all results
 unfoldable pub written : Sets → Line → List ℕ

@@ -3,6 +3,9 @@
 ghost use mathlib.Core.Path.{_≡_};
 ghost use Prim.Native.Nat.{ℕ, _*_, _<_, _≤_};
 ghost use lib.Dec.{T};
+ghost use mathlib.Core.List.{map};
+ghost use Rattle.model.specs.Places.{kind};
+ghost use Rattle.model.specs.Step.{meaning};
 ghost use lib.ListN.{length, getD};
 ghost use Rattle.model.specs.Limits.{stateSize, lineWidth, maxLines};
 ghost use Rattle.model.specs.Stored.{operandOf, lineCount, lines};
@@ -14,6 +17,7 @@ use choices::base_of;
 use choices::explore;
 use model::Answer;
 use model::LINE_WIDTH;
+use model::Mark;
 use model::Opcode;
 use model::ROW_WIDTH;
 use model::STATE_SIZE;
@@ -70,15 +74,31 @@ fn is_branch(opcode: Opcode) -> bool
     }
 }
 
-// Whether an argument or its base has several values.
-fn is_loose(code: u16, sets: &[u8], state: &[u8]) -> bool
+// What the values of a place mean as an argument of a line of that mark, each once; in an unmarked line they are the values.
+fn distinct_at(mark: Mark, sets: &[u8], i: usize) -> [u8; ROOM]
+    requires { ⌜ length (now sets) ≡ setWidth * stateSize ⌝ }
+    ensures { λ r. ⌜ (listed r ≡ distinct (map (meaning mark (kind i)) (values (listsOf (now (sets .entry))) i))) × (getD r 0 0 ≤ maxValues) ⌝ }
+{
+    let n = size_of(sets, i);
+    let mut found = [0u8; ROOM];
+    let mut j = 0;
+    while j < n {
+        note(&mut found, machine::argument(mark, i, value_of(sets, i, j)));
+        j += 1;
+    }
+    found
+}
+
+// Whether an argument of a line of that mark or its base has several values.
+fn is_loose(mark: Mark, code: u16, sets: &[u8], state: &[u8]) -> bool
     requires { ⌜ (length (now sets) ≡ setWidth * stateSize) × (now state ≡ heads (listsOf (now sets))) ⌝ }
-    ensures { λ r. ⌜ r ≡ loose (listsOf (now (sets .entry))) (operandOf code) ⌝ }
+    ensures { λ r. ⌜ r ≡ loose (listsOf (now (sets .entry))) mark (operandOf code) ⌝ }
 {
     if is_several(sets, base_of(code)) {
         return true;
     }
-    is_several(sets, machine::place_at(code, state))
+    let meant = distinct_at(mark, sets, machine::place_at(code, state));
+    1 < meant[0]
 }
 
 // 21: a branch argument, its base or a destination's base has several values.
@@ -90,10 +110,11 @@ fn is_unsettled(line: &[u16], sets: &[u8], state: &[u8]) -> bool
         return true;
     }
     if is_branch(coding::opcode_of(line[1])) {
-        if is_loose(line[3], sets, state) {
+        let mark = coding::mark_of(line[0]);
+        if is_loose(mark, line[3], sets, state) {
             return true;
         }
-        return is_loose(line[4], sets, state);
+        return is_loose(mark, line[4], sets, state);
     }
     false
 }
@@ -188,21 +209,6 @@ fn is_sized(sets: &[u8]) -> bool
     true
 }
 
-// The values of a place, each once.
-fn distinct_at(sets: &[u8], i: usize) -> [u8; ROOM]
-    requires { ⌜ length (now sets) ≡ setWidth * stateSize ⌝ }
-    ensures { λ r. ⌜ (listed r ≡ distinct (values (listsOf (now (sets .entry))) i)) × (getD r 0 0 ≤ maxValues) ⌝ }
-{
-    let n = size_of(sets, i);
-    let mut found = [0u8; ROOM];
-    let mut j = 0;
-    while j < n {
-        note(&mut found, value_of(sets, i, j));
-        j += 1;
-    }
-    found
-}
-
 // The sets that are walked on, each value once, and the state of their first values.
 fn take_sets(sets: &[u8], own: &mut [u8], state: &mut [u8])
     requires { ⌜ (length (now sets) ≡ setWidth * stateSize) × T (sized stateSize (now sets)) × (length (now own) ≡ setWidth * stateSize) × (length (now state) ≡ stateSize) ⌝ }
@@ -210,7 +216,7 @@ fn take_sets(sets: &[u8], own: &mut [u8], state: &mut [u8])
 {
     let mut i = 0;
     while i < STATE_SIZE {
-        let found = distinct_at(sets, i);
+        let found = distinct_at(Mark::Unmarked, sets, i);
         put_set(own, i, &found);
         state[i] = found[1];
         i += 1;

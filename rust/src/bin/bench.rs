@@ -135,16 +135,24 @@ fn main() {
     measure("run, loop with indirect operands, 65,535", 1.2, &|on, memory| {
         on.run(&looping, 0, 65_535, &mut memory.state, &mut memory.numbers)
     });
+    // The same with public places of all three forms in marked lines.
+    let public = stored(
+        "u,add,r4,r4,#1,\ns,xor,%r4+3,%r4+64,r4,\ns,and,%r5+1,!r4+6,%r4+9,\nu,add,!r4+5,!r4+6,r4,\n\
+         s,mov,r16,!r4+7,,\ns,orr,%r4+77,@5,r6,\nu,jmp,,,,0\n",
+    );
+    measure("run, loop with public bits, 65,535", 1.2, &|on, memory| {
+        on.run(&public, 0, 65_535, &mut memory.state, &mut memory.numbers)
+    });
     let (source, expansion) = simon::programs(&Library);
-    measure("run, example cipher, 17,385 steps", 1.2, &|on, memory| {
+    measure("run, example cipher, 16,447 steps", 1.2, &|on, memory| {
         on.run(&source, 0, 65_535, &mut memory.state, &mut memory.numbers)
     });
-    measure("run, its expansion, 65,425 steps", 1.2, &|on, memory| {
+    measure("run, its expansion, 64,823 steps", 1.2, &|on, memory| {
         on.run(&expansion, 0, 65_535, &mut memory.state, &mut memory.numbers)
     });
 
     let images = image_sets();
-    measure("walk, its expansion on all images, 65,425", 1.2, &|on, _| on.judge(&expansion, &images, 65_535));
+    measure("walk, its expansion on all images, 64,823", 1.2, &|on, _| on.judge(&expansion, &images, 65_535));
     let (worst, sets) = worst_step();
     let step = measure("walk, one step of 65,536 argument choices", 1.2, &|on, _| on.judge(&worst, &sets, 1));
 
@@ -161,6 +169,7 @@ fn main() {
     let expand = |name: &str, program: Vec<u16>| {
         measure(name, 1.2, &|on, memory| on.expand(&program, &mut memory.numbers))
     };
+    expand("expand, 1,024 lines with two public bits", stored(&"s,xor,r16,@5,!r4+3,\n".repeat(1_024)));
     let long = expand("expand, 1,024 marked lines", marked(1_024));
     let short = expand("expand, 256 marked lines", marked(256));
     let jumps_0 = expand("expand, 1,024 jumps to line 0", jumps(0));

@@ -2,7 +2,7 @@
 //! rest: every choice of values is made, one after the other, and the machine's
 //! own step is done in each.
 
-use super::{base, place, refused, step, Line, Opcode, Operand, ROW, STATE};
+use super::{base, place, refused, step, value, Line, Opcode, Operand, ROW, STATE};
 use crate::answer::Answer;
 use std::collections::BTreeSet;
 
@@ -71,17 +71,24 @@ pub fn reach(operand: Operand, sets: &[Values]) -> BTreeSet<usize> {
     places
 }
 
+/// The values that an argument of a line may have: by request 03, not always its place's.
+fn values(line: &Line, argument: Operand, sets: &[Values]) -> Values {
+    let mut values = Values::new();
+    let alone = Line { destination: None, first: Some(argument), second: None, ..*line };
+    choices(&alone, sets, &mut |state| values.extend([value(line.marked, alone.first, state)]));
+    values
+}
+
 /// Condition 21: a branch argument, its base or a destination's base has several values.
 pub fn undecided(line: &Line, sets: &[Values]) -> bool {
-    let several = |place: usize| sets[place].len() > 1;
-    let base_is = |operand: Operand| base(operand).is_some_and(|register| several(register as usize));
-    let place_is = |operand: Operand| reach(operand, sets).into_iter().any(several);
+    let base_is = |operand: Operand| base(operand).is_some_and(|base| sets[base as usize].len() > 1);
+    let argument_is = |operand: Operand| values(line, operand, sets).len() > 1;
     let arguments = match line.opcode {
         Opcode::Beq | Opcode::Bne => [line.first, line.second],
         _ => [None, None],
     };
     line.destination.is_some_and(base_is)
-        || arguments.into_iter().flatten().any(|operand| base_is(operand) || place_is(operand))
+        || arguments.into_iter().flatten().any(|operand| base_is(operand) || argument_is(operand))
 }
 
 /// One step on sets: gives the next counter, and the written place gets all results.

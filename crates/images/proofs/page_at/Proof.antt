@@ -1,7 +1,7 @@
--- `images::page_at` meets its contract. The rule of a table holds at each of its entries, and past the tables the page is 0.
--- Assumes nothing.
+-- `images::page_at` meets its contract. The rule of a table holds at each of its entries; past the tables the page has the two codes, and
+-- is 0 else. Assumes nothing.
 use native.Mathlib.Omega.{arith}
-use Rattle.images.proofs.Tables.{orr-start, xor-start, and-page, orr-page, xor-page, rest-page}
+use Rattle.images.proofs.Tables.{orr-start, xor-start, and-page, orr-page, xor-page, zero-page, one-page, rest-page}
 use borrow.Author.Needs.{needs}
 use Rattle.images.proofs.page_at.Statement.{statement}
 use Rattle.images.proofs.page_at.Tie as tie
@@ -46,9 +46,16 @@ returns-3 c =
     xor-page _ (s .pre) _ (c .before .if2 .left) (c .if3 .taken)
 
 returns-4 : tie.Need-returns-4
-returns-4 c =
-    let s = c .before .before .before .before .before in
-    rest-page _ (s .pre) _ (c .if3 .left)
+returns-4 c = zero-page _ (c .before .before .before .before .before .before .pre) _ (c .before .if3 .left) (c .if4 .taken)
+
+add-if5 : tie.Need-add-if5
+add-if5 c = search needs
+
+returns-5 : tie.Need-returns-5
+returns-5 c = one-page _ (c .before .before .before .before .before .before .before .pre) _ (c .before .before .if3 .left) (c .before .if4 .left) (c .if5 .taken)
+
+returns-6 : tie.Need-returns-6
+returns-6 c = rest-page _ (c .before .before .before .before .before .before .before .pre) _ (c .before .before .if3 .left) (c .before .if4 .left) (c .if5 .left)
 
 pub page-at-spec : {M : Type 1} → statement M
 page-at-spec =
@@ -63,4 +70,7 @@ page-at-spec =
     add-if3
     array-read-result-3
     returns-3
-    returns-4)
+    returns-4
+    add-if5
+    returns-5
+    returns-6)

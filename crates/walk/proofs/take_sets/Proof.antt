@@ -1,6 +1,6 @@
 -- `walk::take_sets` meets its contract. The loop's invariant: the first i places have their sets and first values. Assumes nothing.
-use mathlib.Core.Path.{_≡_, sym, ap, _∙_}
-use mathlib.Core.List.{List, [], _∷_}
+use mathlib.Core.Path.{_≡_, refl, sym, ap, _∙_}
+use mathlib.Core.List.{List, [], _∷_, map}
 use Prim.Native.Nat.{ℕ, suc, _+_, _*_, _-_, _≤_, _<_}
 use native.Mathlib.Decide.{ℕ-discrete}
 use native.Mathlib.Omega.{arith}
@@ -8,7 +8,10 @@ use lib.Dec.{T}
 use lib.ListN.{length, getD, set, take, length-map, length-set}
 use lib.Seq.{getD-set-same, getD-set-other, ext-getD}
 use Rattle.model.specs.Limits.{stateSize}
-use Rattle.model.specs.Places.{State}
+use Rattle.model.specs.declared.Kind.{Kind}
+use Rattle.model.specs.declared.Mark.the-variants.{Unmarked}
+use Rattle.model.specs.Places.{State, kind}
+use Rattle.model.specs.Step.{meaning}
 use Rattle.walk.specs.Walk.{Sets, setWidth, maxValues, listed, listsOf, setsOf, sized, values, heads, distinct}
 use Rattle.walk.proofs.SetBytes.{lists-length, listed-at, listed-front}
 use Rattle.walk.proofs.DrawnStates.{heads-at}
@@ -60,6 +63,12 @@ module _ (b own : List ℕ) (s : State) (i : ℕ) where
             (λ m n. I .first-values m (omega (arith, I .long-state)) ∙ ap (λ (S : Sets). getD (values S m) 0 0) (sym same) ∙ sym (heads-at (listsOf own) m)),
       )
 
+-- in an unmarked line values are as they are
+as-they-are : (k : Kind) (xs : List ℕ) → map (meaning Unmarked k) xs ≡ xs
+unfolding meaning
+as-they-are k [] = refl
+as-they-are k (x ∷ xs) = ap (λ (ys : List ℕ). x ∷ ys) (as-they-are k xs)
+
 abbrev Inv-loop : tie.InvT-loop
 Inv-loop sets own₀ state₀ i₀ own state i = Took sets own state i
 
@@ -107,7 +116,7 @@ loop-again c =
     let m = c .before .before .before .before .before .before .before .loop in
     let x = c .before .before .before .before .before .before .before .before .before .before .before .args in
     let p = c .before .before .before .before .before .before .before .before .before .before .before .pre in
-    one-more (x .sets .now) (m .own) (m .state) (m .i) (p .0) (p .1) (m .inv) (t .taken) (v .result) (search needs) (v .ensures .0) (v .ensures .1) _ (q .kept .0) (q .ensures)
+    one-more (x .sets .now) (m .own) (m .state) (m .i) (p .0) (p .1) (m .inv) (t .taken) (v .result) (search needs) (v .ensures .0 ∙ ap distinct (as-they-are (kind (m .i)) (values (listsOf (x .sets .now)) (m .i)))) (v .ensures .1) _ (q .kept .0) (q .ensures)
 
 same-length : tie.Need-same-length Inv-loop μ-loop
 same-length c =

@@ -1,6 +1,10 @@
--- `expander::macros::put_load` meets its contract. The register precharged and written. Assumes nothing.
-use Rattle.model.specs.Expansion.{load}
-use Rattle.expander.proofs.PieceWrites.{load-wrote}
+-- `expander::macros::put_load` meets its contract. The register precharged and written; then, by whether the argument is a public place, its
+-- bit coded. Assumes nothing.
+use native.Mathlib.Omega.{arith}
+use Rattle.model.specs.Stored.{operandOf}
+use Rattle.model.proofs.Loads.{load-public, load-bounds}
+use Rattle.expander.proofs.NumberTests.{public-told}
+use Rattle.expander.proofs.PieceWrites.{load-wrote, load-bit-wrote}
 use borrow.Author.Needs.{needs}
 use Rattle.expander.proofs.macros.put_load.Statement.{statement}
 use Rattle.expander.proofs.macros.put_load.Tie as tie
@@ -9,14 +13,42 @@ add-put-precharged : tie.Need-add-put-precharged
 add-put-precharged c = search needs
 
 put-precharged-requires : tie.Need-put-precharged-requires
-unfolding load
-put-precharged-requires c κs = search needs
+put-precharged-requires c κs = omega (arith, (c .before .before .pre .1), load-bounds (c .before .before .args .n) (operandOf (c .before .before .args .a)))
+
+kind-of-requires : tie.Need-kind-of-requires
+kind-of-requires c κs = search needs
+
+is-public-requires : tie.Need-is-public-requires
+is-public-requires c κs = search needs
+
+put-code-bit-requires : tie.Need-put-code-bit-requires
+put-code-bit-requires c κs =
+    let e = public-told (operandOf (c .before .before .before .before .before .before .before .before .before .args .a)) (c .before .before .before .kind-of .ensures) (c .before .before .is-public .ensures) (c .before .if1 .taken) in
+    let w = c .before .before .before .before .before .before .put-precharged .ensures in
+    ((c .before .before .before .before .before .before .before .before .before .pre .0), omega (arith, (c .before .before .before .before .before .before .before .before .before .pre .1), load-public (c .before .before .before .before .before .before .before .before .before .args .n) (operandOf (c .before .before .before .before .before .before .before .before .before .args .a)) e, w .ends, w .long))
 
 same-length : tie.Need-same-length
 same-length c = search needs
 
 returns : tie.Need-returns
-returns c = load-wrote _ _ (c .before .before .before .before .before .pre .0) (c .before .before .put-precharged .ensures)
+returns c = load-bit-wrote _ _ (c .before .before .before .before .before .before .before .before .before .before .before .before .pre .0) (public-told _ (c .before .before .before .before .before .before .kind-of .ensures) (c .before .before .before .before .before .is-public .ensures) (c .before .before .before .before .if1 .taken)) (c .before .before .before .before .before .before .before .before .before .put-precharged .ensures) (c .before .before .put-code-bit .ensures)
+
+same-length-2 : tie.Need-same-length-2
+same-length-2 c = search needs
+
+returns-2 : tie.Need-returns-2
+returns-2 c = load-wrote _ _ (c .before .before .before .before .before .before .before .before .pre .0) (public-told _ (c .before .before .kind-of .ensures) (c .before .is-public .ensures) (c .if1 .left)) (c .before .before .before .before .before .put-precharged .ensures)
 
 pub put-load-spec : {M : Type 1} → statement M
-put-load-spec = tie.close (tie.spec add-put-precharged put-precharged-requires same-length returns)
+put-load-spec =
+    tie.close
+    (tie.spec
+    add-put-precharged
+    put-precharged-requires
+    kind-of-requires
+    is-public-requires
+    put-code-bit-requires
+    same-length
+    returns
+    same-length-2
+    returns-2)

@@ -1,0 +1,131 @@
+-- Request 03, 'Programs accepted before expand as before': the macros, the expansion and the acceptance of document 01, as they were before a
+-- public bit could stand in a marked line, and the claim. Assumes nothing.
+use mathlib.Core.Path.{_≡_}
+use mathlib.Core.Bool.{Bool, not, _&&_, _||_}
+use mathlib.Core.List.{List, [], _∷_, flatMap}
+use Prim.Native.Nat.{ℕ, zero, suc, _+_, _≤_}
+use lib.Dec.{T}
+use lib.ListN.{length}
+use Rattle.model.specs.declared.Mark.{Mark}
+use Rattle.model.specs.declared.Mark.the-variants.{Unmarked, Marked}
+use Rattle.model.specs.declared.Opcode.{Opcode}
+use Rattle.model.specs.declared.Opcode.the-variants.{Nop, Jmp, Not, Mov, And, Orr, Xor, Lsl, Lsr, Add, Mul, Beq, Bne}
+use Rattle.model.specs.declared.Operand.{Operand}
+use Rattle.model.specs.declared.Operand.the-variants.{Literal, Register, TableCell}
+use Rattle.model.specs.declared.Line.{Line}
+use Rattle.model.specs.Limits.{maxAccepted}
+use Rattle.model.specs.Answers.{counted}
+use Rattle.model.specs.Places.{kindOf, isPublic}
+use Rattle.model.specs.Lines.{AllCorrect, Every}
+use Rattle.model.specs.Stored.{lineCount, lines, programCheck}
+use Rattle.model.specs.Layouts.{neighbours}
+use Rattle.model.specs.Marks.{isMarked, isAbove, holds10, holds11, holds12, holds14, holds15, holds16, Accepted}
+use Rattle.model.specs.Expansion.{coded, markedLine, move, retarget, expand, written, expandOutcome}
+
+-- ---- the macros of document 01, line for line
+
+-- and, orr, xor, 13 lines
+unfoldable pub lookupBefore : ℕ → Operand → Operand → Operand → List Line
+lookupBefore t d a b =
+    move (Register 1) (Register 0)
+    ∷ move (Register 1) a
+    ∷ markedLine And (Register 1) (Register 1) (Literal 3)
+    ∷ markedLine Lsl (Register 1) (Register 1) (Literal 1)
+    ∷ markedLine Lsl (Register 1) (Register 1) (Literal 1)
+    ∷ move (Register 2) (Register 0)
+    ∷ move (Register 2) b
+    ∷ markedLine And (Register 2) (Register 2) (Literal 3)
+    ∷ markedLine Orr (Register 1) (Register 1) (Register 2)
+    ∷ move (Register 3) (Register 0)
+    ∷ move (Register 3) (TableCell 1 t)
+    ∷ move d (Register 0)
+    ∷ move d (Register 3)
+    ∷ []
+
+-- not, 5 lines
+unfoldable pub negateBefore : Operand → Operand → List Line
+negateBefore d a =
+    move (Register 1) (Register 0)
+    ∷ move (Register 1) a
+    ∷ markedLine Xor (Register 1) (Register 1) (Literal 3)
+    ∷ move d (Register 0)
+    ∷ move d (Register 1)
+    ∷ []
+
+-- mov, 4 lines
+unfoldable pub copyBefore : Operand → Operand → List Line
+copyBefore d a =
+    move (Register 3) (Register 0)
+    ∷ move (Register 3) a
+    ∷ move d (Register 0)
+    ∷ move d (Register 3)
+    ∷ []
+
+unfoldable pub macroBefore : Opcode → Operand → Operand → Operand → List Line
+unfolding lookupBefore negateBefore copyBefore
+macroBefore Nop d a b = []
+macroBefore Jmp d a b = []
+macroBefore Not d a b = negateBefore d a
+macroBefore Mov d a b = copyBefore d a
+macroBefore And d a b = lookupBefore 0 d a b
+macroBefore Orr d a b = lookupBefore 16 d a b
+macroBefore Xor d a b = lookupBefore 32 d a b
+macroBefore Lsl d a b = []
+macroBefore Lsr d a b = []
+macroBefore Add d a b = []
+macroBefore Mul d a b = []
+macroBefore Beq d a b = []
+macroBefore Bne d a b = []
+
+-- ---- its expansion
+
+unfoldable pub partBefore : Mark → (ℕ → ℕ) → Line → List Line
+unfolding macroBefore coded
+partBefore Unmarked starts l = retarget starts l ∷ []
+partBefore Marked starts l = macroBefore (l .opcode) (l .destination) (coded neighbours (l .first)) (coded neighbours (l .second))
+
+unfoldable pub startBefore : List Line → ℕ → ℕ
+unfolding partBefore
+startBefore [] i = 0
+startBefore (l ∷ ls) zero = 0
+startBefore (l ∷ ls) (suc i) = length (partBefore (l .mark) (λ t. t) l) + startBefore ls i
+
+unfoldable pub expandBefore : List Line → List Line
+unfolding partBefore startBefore flatMap
+expandBefore p = flatMap (λ l. partBefore (l .mark) (startBefore p) l) p
+
+-- ---- its accepted programs
+
+-- 13: s with a public place as argument
+unfoldable pub holds13 : Line → Bool
+unfolding kindOf
+holds13 l = isMarked (l .mark) && (isPublic (kindOf (l .first)) || isPublic (kindOf (l .second)))
+
+-- the greatest target that a correct line had
+abbrev pub targetsBefore : ℕ
+targetsBefore = 16384
+
+-- a test that fails of every line
+abbrev pub Never : (Line → Bool) → List Line → Type 0
+Never f = Every (λ l. T (not (f l)))
+
+-- none of the conditions of a line held, n being the line count
+abbrev pub NoneHeld : ℕ → Line → Type 0
+NoneHeld n l = T (not (holds10 l)) × T (not (holds11 l)) × T (not (holds12 l)) × T (not (holds13 l)) × T (not (holds14 l)) × T (not (holds15 l)) × T (not (holds16 n l))
+
+-- a program of correct lines of which none of the conditions 9 to 16 held
+pub record AcceptedBefore (p : List Line) : Type 0 where
+  pub right : AllCorrect p
+  pub targets : Never (λ l. isAbove targetsBefore (l .target)) p
+  pub few : length p ≤ maxAccepted
+  pub none : Every (NoneHeld (length p)) p
+
+-- ---- the claim
+
+-- these programs are those accepted now of which 13 would hold in no line; they expand as before, and without 13 all programs do; so the
+-- expander answers what it answered
+pub record AsBefore : Type 0 where
+  pub accepted : (p : List Line) → AcceptedBefore p → Accepted p × Never holds13 p
+  pub were-accepted : (p : List Line) → Accepted p → Never holds13 p → AcceptedBefore p
+  pub expands : (p : List Line) → Never holds13 p → expand neighbours p ≡ expandBefore p
+  pub answers : (p out : List ℕ) → programCheck p ≡ counted (lineCount p) → AcceptedBefore (lines p) → expandOutcome p out ≡ written (expandBefore (lines p)) out
