@@ -34,6 +34,16 @@ reads-place s n h =
     by-form n (λ o. value o s ≡ getD s (place o s) 0) (λ l. absurd (omega arith)) (λ g l. absurd (omega arith)) (λ g l. refl) (λ g l. refl)
     (λ g l. refl) (λ g l. refl) (λ g. refl)
 
+-- a place is one of the state, or the one past it, which is none
+place-most : (s : State) (n : ℕ) → place (operandOf n) s ≤ stateSize
+unfolding place
+place-most s n =
+    by-form n (λ o. place o s ≤ stateSize) (λ l. omega arith) (λ g l. omega arith) (λ g l. omega arith) (λ g l. omega arith)
+    (λ g l. omega arith) (λ g l. omega arith) (λ g. omega arith)
+
+pub fetched-most : (s : State) (n : ℕ) (x : Fetched) → x ≡ fetchOf (operandOf n) s → x .at ≤ stateSize
+fetched-most s n x e = rw e (place-most s n)
+
 -- an argument is what a line of that mark makes of its operand's place, which is of the operand's kind, and its value
 argument-read : (m : Mark) (o : Operand) (s : State) → argument m o s ≡ readAs m (place o s) (value o s)
 unfolding argument

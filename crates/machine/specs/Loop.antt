@@ -1,18 +1,19 @@
 -- The parts of a step that the code hands from function to function, and the loop over steps with a trace store.
 -- proofs/Traces ties the loop to the model's run. Assumes nothing.
+use mathlib.Core.Path.{_≡_}
 use mathlib.Core.Bool.{Bool, true, false, cond}
 use mathlib.Core.List.{List, [], _∷_, _++_}
-use Prim.Native.Nat.{ℕ, zero, suc, _+_, _*_}
+use Prim.Native.Nat.{ℕ, zero, suc, _+_, _*_, _≤_}
 use lib.Dec.{ltb}
-use lib.ListN.{take, drop}
+use lib.ListN.{getD, take, drop}
 use Rattle.model.specs.declared.Mark.{Mark}
 use Rattle.model.specs.declared.Line.{Line}
 use Rattle.model.specs.declared.Opcode.{Opcode}
 use Rattle.model.specs.declared.Opcode.the-variants.{Nop, Jmp, Not, Mov, And, Orr, Xor, Lsl, Lsr, Add, Mul, Beq, Bne}
 use Rattle.model.specs.declared.Operand.{Operand}
-use Rattle.model.specs.Limits.{rowWidth}
+use Rattle.model.specs.Limits.{rowWidth, stateSize}
 use Rattle.model.specs.Answers.{halted, spent, Outcome, outcome}
-use Rattle.model.specs.Places.{State, kind, address, place, value}
+use Rattle.model.specs.Places.{State, kind, isPublic, address, place, value}
 use Rattle.model.specs.Stored.{lineAt}
 use Rattle.model.specs.Step.{weight, distance, meaning, Row, result, next, after, row}
 use Rattle.machine.specs.declared.Arguments.{Arguments}
@@ -40,6 +41,14 @@ readAs m i x = meaning m (kind i) x
 -- the arguments of a line of that mark, of what was fetched
 abbrev pub argumentsOf : Mark → Fetched → Fetched → Arguments
 argumentsOf m x y = record { first = readAs m (x .at) (x .value); second = readAs m (y .at) (y .value) }
+
+-- what a marked line keeps of a byte at place i: of a public place the lowest bit, of any other all
+abbrev pub mask : ℕ → ℕ
+mask i = cond (isPublic (kind i)) 1 255
+
+-- the masks of all places, and of the one past the state, which is none
+abbrev pub Masks : List ℕ → Type 0
+Masks ms = (i : ℕ) → i ≤ stateSize → getD ms i 0 ≡ mask i
 
 -- the row of line k, from the old value, the result and the addresses' weights
 abbrev pub rowOf : ℕ → ℕ → ℕ → ℕ → ℕ → ℕ → Row

@@ -6,13 +6,13 @@ ghost use mathlib.Core.Bool.{cond};
 ghost use mathlib.Core.List.{[], _∷_};
 ghost use Prim.Native.Nat.{suc, _+_, _*_, _/_, _%_, _^_, _<_, _≤_};
 ghost use lib.ListN.{length, getD, set};
-ghost use Rattle.model.specs.Limits.{maxLines, rowWidth};
+ghost use Rattle.model.specs.Limits.{maxLines, rowWidth, stateSize};
 ghost use Rattle.model.specs.Answers.{report, outcome};
 ghost use Rattle.model.specs.Stored.{registers, operandOf, targetOf, lineOf};
 ghost use Rattle.model.specs.Step.{weight, distance, shiftBy, negated, alu, taken, targetLine, meaning, next, after, row};
 ghost use Rattle.model.specs.Places.{kind, place};
 ghost use Rattle.model.specs.Run.{runOutcome};
-ghost use Rattle.machine.specs.Loop.{cellPlace, placeOf, fetchOf, argumentsOf, rowOf, effectOf, jumps, putRow, machine, runFrom};
+ghost use Rattle.machine.specs.Loop.{cellPlace, placeOf, fetchOf, argumentsOf, mask, Masks, rowOf, effectOf, jumps, putRow, machine, runFrom};
 use model::Answer;
 use model::Mark;
 use model::Opcode;
@@ -264,6 +264,52 @@ fn read_arguments(mark: Mark, x: Fetched, y: Fetched) -> Arguments
     }
 }
 
+// The places of a state, and the one past them, which is none.
+const MASKS: usize = STATE_SIZE + 1;
+
+// What a marked line keeps of a byte at a place.
+fn mask_at(i: usize) -> u8
+    ensures { λ r. ⌜ r ≡ mask i ⌝ }
+{
+    if coding::is_public(coding::kind_at(i)) {
+        1
+    } else {
+        255
+    }
+}
+
+// The masks of all places. A run makes them once: to tell the kind of a place at each argument of each step would make it slower by a third.
+fn all_masks() -> [u8; MASKS]
+    ensures { λ r. ⌜ Masks r ⌝ }
+{
+    let mut masks = [0u8; MASKS];
+    let mut i = 0;
+    while i < MASKS {
+        masks[i] = mask_at(i);
+        i += 1;
+    }
+    masks
+}
+
+// The arguments of a line of that mark, by the masks.
+fn mask_arguments(mark: Mark, x: Fetched, y: Fetched, masks: &[u8; MASKS]) -> Arguments
+    requires { ⌜ Masks (now masks) × (x .at ≤ stateSize) × (y .at ≤ stateSize) ⌝ }
+    ensures { λ r. ⌜ r ≡ argumentsOf mark x y ⌝ }
+{
+    let i = x.at;
+    let j = y.at;
+    match mark {
+        Mark::Unmarked => Arguments {
+            first: x.value,
+            second: y.value,
+        },
+        Mark::Marked => Arguments {
+            first: x.value & masks[i],
+            second: y.value & masks[j],
+        },
+    }
+}
+
 // Where a line writes.
 fn destination(code: u16, state: &[u8]) -> Place
     ensures { λ r. ⌜ r ≡ placeOf (operandOf code) (now (state .entry)) ⌝ }
@@ -374,8 +420,18 @@ struct Done {
 }
 
 // The line of six numbers on a state. Arguments and addresses are worked out before the write.
-fn perform(m: u16, o: u16, d: u16, a: u16, b: u16, t: u16, counter: u16, state: &mut [u8]) -> Done
-    requires { ⌜ counter < 65535 ⌝ }
+fn perform(
+    m: u16,
+    o: u16,
+    d: u16,
+    a: u16,
+    b: u16,
+    t: u16,
+    counter: u16,
+    masks: &[u8; MASKS],
+    state: &mut [u8],
+) -> Done
+    requires { ⌜ (counter < 65535) × Masks (now masks) ⌝ }
     ensures { λ r. ⌜ (r .next ≡ next (lineOf m o d a b t) counter (now (state .entry))) × (r .row ≡ row (lineOf m o d a b t) counter (now (state .entry))) ⌝ }
     ensures { λ r. ⌜ now (state .exit) ≡ after (lineOf m o d a b t) (now (state .entry)) ⌝ }
 {
@@ -383,7 +439,7 @@ fn perform(m: u16, o: u16, d: u16, a: u16, b: u16, t: u16, counter: u16, state: 
     let opcode = coding::opcode_of(o);
     let x = fetch(a, state);
     let y = fetch(b, state);
-    let args = read_arguments(mark, x, y);
+    let args = mask_arguments(mark, x, y, masks);
     let result = alu(mark, opcode, args.first, args.second);
     let jumps = is_taken(opcode, args.first, args.second);
     let next = advanced(jumps, target_line(t), counter);
@@ -417,6 +473,7 @@ fn run_lines(
     requires { ⌜ (count ≤ maxLines) × (rowWidth * budget ≤ length (now trace)) ⌝ }
     ensures { λ r. ⌜ outcome (report r) (now (state .exit) ∷ now (trace .exit) ∷ []) ≡ runFrom (now (program .entry)) count budget (machine (record { counter = start; steps = 0 }) (now (state .entry)) (now (trace .entry))) ⌝ }
 {
+    let masks = all_masks();
     let mut run = Run {
         counter: start,
         steps: 0,
@@ -428,7 +485,7 @@ fn run_lines(
                 steps: run.steps,
             };
         }
-        run = run.step(program, state, trace);
+        run = run.step(program, &masks, state, trace);
     }
     Answer::Halted {
         counter: run.counter,

@@ -15,7 +15,7 @@ use Rattle.machine.specs.declared.Arguments.{Arguments}
 use Rattle.machine.specs.declared.Fetched.{Fetched}
 use Rattle.machine.specs.declared.Place.{Place}
 use Rattle.machine.specs.Loop.{placeOf, fetchOf, argumentsOf, rowOf}
-use Rattle.machine.proofs.NamedPlaces.{arguments-read}
+use Rattle.machine.proofs.NamedPlaces.{fetched-most, arguments-read}
 use Rattle.machine.proofs.perform.Statement.{statement}
 use Rattle.machine.proofs.perform.Tie as tie
 
@@ -49,8 +49,8 @@ fetch-requires c κs = search needs
 fetch-requires-2 : tie.Need-fetch-requires-2
 fetch-requires-2 c κs = search needs
 
-read-arguments-requires : tie.Need-read-arguments-requires
-read-arguments-requires c κs = search needs
+mask-arguments-requires : tie.Need-mask-arguments-requires
+mask-arguments-requires c κs = ((c .before .before .before .before .before .before .before .pre .1), fetched-most (c .before .before .before .before .before .before .before .args .state .now) (c .before .before .before .before .before .before .before .args .a) _ (c .before .before .fetch .ensures), fetched-most (c .before .before .before .before .before .before .before .args .state .now) (c .before .before .before .before .before .before .before .args .b) _ (c .fetch2 .ensures))
 
 alu-requires : tie.Need-alu-requires
 alu-requires c κs = search needs
@@ -87,9 +87,9 @@ returns c =
     let m = p .before in
     let s = m .before .before in
     performed (lineOf (s .args .m) (s .args .o) (s .args .d) (s .args .a) (s .args .b) (s .args .t)) (s .args .counter) (s .args .state .now) _
-    (m .mark-of .result) (p .opcode-of .result) (j .is-taken .result) (x .fetch .result) (y .fetch2 .result) (z .read-arguments .result)
+    (m .mark-of .result) (p .opcode-of .result) (j .is-taken .result) (x .fetch .result) (y .fetch2 .result) (z .mask-arguments .result)
     (w .replace .result .place) _ _ _ _ (c .row-of .result)
-    (m .mark-of .ensures) (p .opcode-of .ensures) (x .fetch .ensures) (y .fetch2 .ensures) (z .read-arguments .ensures)
+    (m .mark-of .ensures) (p .opcode-of .ensures) (x .fetch .ensures) (y .fetch2 .ensures) (z .mask-arguments .ensures)
     (r .alu .ensures) (j .is-taken .ensures) (g .target-line .ensures) (n .advanced .ensures)
     (w .replace .ensures .0 .0) (w .replace .ensures .0 .1) (w .replace .ensures .1) (c .row-of .ensures)
 
@@ -101,7 +101,7 @@ perform-spec =
     opcode-of-requires
     fetch-requires
     fetch-requires-2
-    read-arguments-requires
+    mask-arguments-requires
     alu-requires
     is-taken-requires
     target-line-requires
