@@ -8,7 +8,7 @@ ghost use Prim.Native.Nat.{suc, _+_, _*_, _/_, _%_, _^_, _<_, _≤_};
 ghost use lib.ListN.{length, getD, set};
 ghost use Rattle.model.specs.Limits.{maxLines, rowWidth, stateSize};
 ghost use Rattle.model.specs.Answers.{report, outcome};
-ghost use Rattle.model.specs.Stored.{registers, operandOf, targetOf, lineOf};
+ghost use Rattle.model.specs.Stored.{registers, opcodeOf, operandOf, targetOf, lineOf};
 ghost use Rattle.model.specs.Step.{weight, distance, shiftBy, negated, alu, taken, targetLine, meaning, next, after, row};
 ghost use Rattle.model.specs.Places.{kind, place};
 ghost use Rattle.model.specs.Run.{runOutcome};
@@ -59,45 +59,33 @@ fn times(x: u8, y: u8) -> u8
     ((x as u16) * (y as u16) % 256) as u8
 }
 
-// What a line writes; public addition wraps at 256.
-fn alu(mark: Mark, opcode: Opcode, x: u8, y: u8) -> u8
-    ensures { λ r. ⌜ r ≡ alu mark opcode x y ⌝ }
+// What a line writes, by the number of its opcode: not, mov, and, orr, xor, lsl, lsr, add and mul are 2 to 10. Public addition wraps at 256.
+fn alu(mark: Mark, o: u16, x: u8, y: u8) -> u8
+    ensures { λ r. ⌜ r ≡ alu mark (opcodeOf o) x y ⌝ }
 {
-    match opcode {
-        Opcode::Nop => 0,
-        Opcode::Jmp => 0,
-        Opcode::Not => negated(mark, x),
-        Opcode::Mov => x,
-        Opcode::And => x & y,
-        Opcode::Orr => x | y,
-        Opcode::Xor => x ^ y,
-        Opcode::Lsl => shifted(true, x, y),
-        Opcode::Lsr => shifted(false, x, y),
-        Opcode::Add => std::num::wrapping_add_u8(x, y),
-        Opcode::Mul => times(x, y),
-        Opcode::Beq => 0,
-        Opcode::Bne => 0,
+    match o {
+        2 => negated(mark, x),
+        3 => x,
+        4 => x & y,
+        5 => x | y,
+        6 => x ^ y,
+        7 => shifted(true, x, y),
+        8 => shifted(false, x, y),
+        9 => std::num::wrapping_add_u8(x, y),
+        10 => times(x, y),
+        _ => 0,
     }
 }
 
-// Whether a line goes to its target.
-fn is_taken(opcode: Opcode, x: u8, y: u8) -> bool
-    ensures { λ r. ⌜ r ≡ taken opcode x y ⌝ }
+// Whether a line goes to its target: jmp, beq and bne are 1, 11 and 12.
+fn is_taken(o: u16, x: u8, y: u8) -> bool
+    ensures { λ r. ⌜ r ≡ taken (opcodeOf o) x y ⌝ }
 {
-    match opcode {
-        Opcode::Nop => false,
-        Opcode::Jmp => true,
-        Opcode::Not => false,
-        Opcode::Mov => false,
-        Opcode::And => false,
-        Opcode::Orr => false,
-        Opcode::Xor => false,
-        Opcode::Lsl => false,
-        Opcode::Lsr => false,
-        Opcode::Add => false,
-        Opcode::Mul => false,
-        Opcode::Beq => x == y,
-        Opcode::Bne => x != y,
+    match o {
+        1 => true,
+        11 => x == y,
+        12 => x != y,
+        _ => false,
     }
 }
 
@@ -373,11 +361,10 @@ pub fn effect_of(m: u16, o: u16, d: u16, a: u16, b: u16, counter: u16, state: &[
     ensures { λ r. ⌜ r ≡ effectOf (lineOf m o d a b 0) counter (now (state .entry)) ⌝ }
 {
     let mark = coding::mark_of(m);
-    let opcode = coding::opcode_of(o);
     let x = fetch(a, state);
     let y = fetch(b, state);
     let args = read_arguments(mark, x, y);
-    let result = alu(mark, opcode, args.first, args.second);
+    let result = alu(mark, o, args.first, args.second);
     let place = destination(d, state);
     let at = place.at;
     let old = read(state, at);
@@ -402,7 +389,7 @@ pub fn next_of(m: u16, o: u16, a: u16, b: u16, t: u16, counter: u16, state: &[u8
     let x = fetch(a, state);
     let y = fetch(b, state);
     let args = read_arguments(mark, x, y);
-    let jumps = is_taken(opcode, args.first, args.second);
+    let jumps = is_taken(o, args.first, args.second);
     advanced(jumps, target_line(t), counter)
 }
 
@@ -436,12 +423,11 @@ fn perform(
     ensures { λ r. ⌜ now (state .exit) ≡ after (lineOf m o d a b t) (now (state .entry)) ⌝ }
 {
     let mark = coding::mark_of(m);
-    let opcode = coding::opcode_of(o);
     let x = fetch(a, state);
     let y = fetch(b, state);
     let args = mask_arguments(mark, x, y, masks);
-    let result = alu(mark, opcode, args.first, args.second);
-    let jumps = is_taken(opcode, args.first, args.second);
+    let result = alu(mark, o, args.first, args.second);
+    let jumps = is_taken(o, args.first, args.second);
     let next = advanced(jumps, target_line(t), counter);
     let r = replace(d, result, state);
     let row = row_of(counter, r.old, result, x.weight, y.weight, r.place.weight);

@@ -1,137 +1,100 @@
--- `machine::alu` meets its contract, opcode by opcode. Assumes nothing.
+-- `machine::alu` meets its contract, by the number of the opcode. Assumes nothing.
+use mathlib.Core.Path.{_≡_, refl, _∙_}
+use Prim.Native.Nat.{ℕ, zero, suc}
 use borrow.Author.Needs.{needs}
+use Rattle.model.specs.declared.Mark.{Mark}
+use Rattle.model.specs.Stored.{opcodeOf}
 use Rattle.model.specs.Step.{alu}
 use Rattle.machine.proofs.alu.Statement.{statement}
 use Rattle.machine.proofs.alu.Tie as tie
 
-enum-told : tie.Need-enum-told
-enum-told c = search needs
+-- an opcode's arm, over plain values
+arm : (m : Mark) (k o x y r : ℕ) → o ≡ k → r ≡ alu m (opcodeOf k) x y → r ≡ alu m (opcodeOf o) x y
+arm m k o x y r e h = rw e h
 
-enum-told-2 : tie.Need-enum-told-2
-enum-told-2 c = search needs
-
-enum-told-3 : tie.Need-enum-told-3
-enum-told-3 c = search needs
+-- every other number is that of a line that writes nothing, or of none
+idle : (m : Mark) (o x y : ℕ) → (o ≡ 2 → ⊥) → (o ≡ 3 → ⊥) → (o ≡ 4 → ⊥) → (o ≡ 5 → ⊥) → (o ≡ 6 → ⊥) → (o ≡ 7 → ⊥) → (o ≡ 8 → ⊥) → (o ≡ 9 → ⊥) → (o ≡ 10 → ⊥) → 0 ≡ alu m (opcodeOf o) x y
+unfolding alu
+idle m zero x y h2 h3 h4 h5 h6 h7 h8 h9 h10 = refl
+idle m (suc zero) x y h2 h3 h4 h5 h6 h7 h8 h9 h10 = refl
+idle m (suc (suc zero)) x y h2 h3 h4 h5 h6 h7 h8 h9 h10 = absurd (h2 refl)
+idle m (suc (suc (suc zero))) x y h2 h3 h4 h5 h6 h7 h8 h9 h10 = absurd (h3 refl)
+idle m (suc (suc (suc (suc zero)))) x y h2 h3 h4 h5 h6 h7 h8 h9 h10 = absurd (h4 refl)
+idle m (suc (suc (suc (suc (suc zero))))) x y h2 h3 h4 h5 h6 h7 h8 h9 h10 = absurd (h5 refl)
+idle m (suc (suc (suc (suc (suc (suc zero)))))) x y h2 h3 h4 h5 h6 h7 h8 h9 h10 = absurd (h6 refl)
+idle m (suc (suc (suc (suc (suc (suc (suc zero))))))) x y h2 h3 h4 h5 h6 h7 h8 h9 h10 = absurd (h7 refl)
+idle m (suc (suc (suc (suc (suc (suc (suc (suc zero)))))))) x y h2 h3 h4 h5 h6 h7 h8 h9 h10 = absurd (h8 refl)
+idle m (suc (suc (suc (suc (suc (suc (suc (suc (suc zero))))))))) x y h2 h3 h4 h5 h6 h7 h8 h9 h10 = absurd (h9 refl)
+idle m (suc (suc (suc (suc (suc (suc (suc (suc (suc (suc zero)))))))))) x y h2 h3 h4 h5 h6 h7 h8 h9 h10 = absurd (h10 refl)
+idle m (suc (suc (suc (suc (suc (suc (suc (suc (suc (suc (suc zero))))))))))) x y h2 h3 h4 h5 h6 h7 h8 h9 h10 = refl
+idle m (suc (suc (suc (suc (suc (suc (suc (suc (suc (suc (suc (suc zero)))))))))))) x y h2 h3 h4 h5 h6 h7 h8 h9 h10 = refl
+idle m (suc (suc (suc (suc (suc (suc (suc (suc (suc (suc (suc (suc (suc o))))))))))))) x y h2 h3 h4 h5 h6 h7 h8 h9 h10 = refl
 
 negated-requires : tie.Need-negated-requires
 negated-requires c κs = search needs
 
-enum-told-4 : tie.Need-enum-told-4
-enum-told-4 c = search needs
-
-enum-told-5 : tie.Need-enum-told-5
-enum-told-5 c = search needs
-
-enum-told-6 : tie.Need-enum-told-6
-enum-told-6 c = search needs
-
-enum-told-7 : tie.Need-enum-told-7
-enum-told-7 c = search needs
-
-enum-told-8 : tie.Need-enum-told-8
-enum-told-8 c = search needs
-
 shifted-requires : tie.Need-shifted-requires
 shifted-requires c κs = search needs
-
-enum-told-9 : tie.Need-enum-told-9
-enum-told-9 c = search needs
 
 shifted-requires-2 : tie.Need-shifted-requires-2
 shifted-requires-2 c κs = search needs
 
-enum-told-10 : tie.Need-enum-told-10
-enum-told-10 c = search needs
-
 wrapping-add-u8-requires : tie.Need-wrapping-add-u8-requires
 wrapping-add-u8-requires c κs = search needs
-
-enum-told-11 : tie.Need-enum-told-11
-enum-told-11 c = search needs
 
 times-requires : tie.Need-times-requires
 times-requires c κs = search needs
 
-enum-told-12 : tie.Need-enum-told-12
-enum-told-12 c = search needs
-
-enum-told-13 : tie.Need-enum-told-13
-enum-told-13 c = search needs
-
 returns : tie.Need-returns
 unfolding alu
-returns c = cc
+returns c = arm _ 2 (c .before .before .args .o) _ _ _ (c .before .match .keys1) (c .negated .ensures)
 
 returns-2 : tie.Need-returns-2
 unfolding alu
-returns-2 c = cc
+returns-2 c = arm _ 3 (c .before .args .o) _ _ _ (c .match .keys2) refl
 
 returns-3 : tie.Need-returns-3
 unfolding alu
-returns-3 c = cc
+returns-3 c = arm _ 4 (c .before .args .o) _ _ _ (c .match .keys3) refl
 
 returns-4 : tie.Need-returns-4
 unfolding alu
-returns-4 c = cc
+returns-4 c = arm _ 5 (c .before .args .o) _ _ _ (c .match .keys4) refl
 
 returns-5 : tie.Need-returns-5
 unfolding alu
-returns-5 c = cc
+returns-5 c = arm _ 6 (c .before .args .o) _ _ _ (c .match .keys5) refl
 
 returns-6 : tie.Need-returns-6
 unfolding alu
-returns-6 c = cc
+returns-6 c = arm _ 7 (c .before .before .args .o) _ _ _ (c .before .match .keys6) (c .shifted .ensures)
 
 returns-7 : tie.Need-returns-7
 unfolding alu
-returns-7 c = cc
+returns-7 c = arm _ 8 (c .before .before .args .o) _ _ _ (c .before .match .keys7) (c .shifted2 .ensures)
 
 returns-8 : tie.Need-returns-8
 unfolding alu
-returns-8 c = cc
+returns-8 c = arm _ 9 (c .before .before .args .o) _ _ _ (c .before .match .keys8) (c .wrapping-add-u8 .ensures)
 
 returns-9 : tie.Need-returns-9
 unfolding alu
-returns-9 c = cc
+returns-9 c = arm _ 10 (c .before .before .args .o) _ _ _ (c .before .match .keys9) (c .times .ensures)
 
 returns-10 : tie.Need-returns-10
-unfolding alu
-returns-10 c = cc
-
-returns-11 : tie.Need-returns-11
-unfolding alu
-returns-11 c = cc
-
-returns-12 : tie.Need-returns-12
-unfolding alu
-returns-12 c = cc
-
-returns-13 : tie.Need-returns-13
-unfolding alu
-returns-13 c = cc
+returns-10 c =
+    let r = c .match .rest in
+    idle _ (c .before .args .o) _ _ (r .0 .0 .0 .0 .0 .0 .0 .0 .1) (r .0 .0 .0 .0 .0 .0 .0 .1) (r .0 .0 .0 .0 .0 .0 .1) (r .0 .0 .0 .0 .0 .1) (r .0 .0 .0 .0 .1) (r .0 .0 .0 .1) (r .0 .0 .1) (r .0 .1) (r .1)
 
 pub alu-spec : {M : Type 1} → statement M
 alu-spec =
     tie.close
     (tie.spec
-    enum-told
-    enum-told-2
-    enum-told-3
     negated-requires
-    enum-told-4
-    enum-told-5
-    enum-told-6
-    enum-told-7
-    enum-told-8
     shifted-requires
-    enum-told-9
     shifted-requires-2
-    enum-told-10
     wrapping-add-u8-requires
-    enum-told-11
     times-requires
-    enum-told-12
-    enum-told-13
     returns
     returns-2
     returns-3
@@ -141,7 +104,4 @@ alu-spec =
     returns-7
     returns-8
     returns-9
-    returns-10
-    returns-11
-    returns-12
-    returns-13)
+    returns-10)

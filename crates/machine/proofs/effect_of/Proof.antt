@@ -1,5 +1,5 @@
 -- `machine::effect_of` meets its contract: the parts of a step from what each call gives. Assumes nothing.
-use mathlib.Core.Path.{_≡_, ap}
+use mathlib.Core.Path.{_≡_, refl, ap}
 use mathlib.Core.List.{List}
 use Prim.Native.Nat.{ℕ}
 use lib.ListN.{getD}
@@ -8,7 +8,7 @@ use Rattle.model.specs.declared.Mark.{Mark}
 use Rattle.model.specs.declared.Opcode.{Opcode}
 use Rattle.model.specs.declared.Line.{Line}
 use Rattle.model.specs.Places.{State, place, address}
-use Rattle.model.specs.Stored.{lineOf}
+use Rattle.model.specs.Stored.{opcodeOf, lineOf}
 use Rattle.model.specs.Step.{weight, alu, result, row}
 use Rattle.machine.specs.declared.Arguments.{Arguments}
 use Rattle.machine.specs.declared.Effect.{Effect}
@@ -44,9 +44,6 @@ worked l k s m p x y z q r o t em ep ex ey ez er eq eo et =
 mark-of-requires : tie.Need-mark-of-requires
 mark-of-requires c κs = search needs
 
-opcode-of-requires : tie.Need-opcode-of-requires
-opcode-of-requires c κs = search needs
-
 fetch-requires : tie.Need-fetch-requires
 fetch-requires c κs = search needs
 
@@ -76,12 +73,11 @@ returns c =
     let z = r .before in
     let y = z .before in
     let x = y .before in
-    let p = x .before in
-    let m = p .before in
+    let m = x .before in
     let s = m .before .before in
     worked (lineOf (s .args .m) (s .args .o) (s .args .d) (s .args .a) (s .args .b) 0) (s .args .counter) (s .args .state .now)
-    (m .mark-of .result) (p .opcode-of .result) (x .fetch .result) (y .fetch2 .result) (z .read-arguments .result) (q .destination .result) _ _ (c .row-of .result)
-    (m .mark-of .ensures) (p .opcode-of .ensures) (x .fetch .ensures) (y .fetch2 .ensures) (z .read-arguments .ensures) (r .alu .ensures)
+    (m .mark-of .result) (opcodeOf (s .args .o)) (x .fetch .result) (y .fetch2 .result) (z .read-arguments .result) (q .destination .result) _ _ (c .row-of .result)
+    (m .mark-of .ensures) refl (x .fetch .ensures) (y .fetch2 .ensures) (z .read-arguments .ensures) (r .alu .ensures)
     (q .destination .ensures) (o .read .ensures) (c .row-of .ensures)
 
 pub effect-of-spec : {M : Type 1} → statement M
@@ -89,7 +85,6 @@ effect-of-spec =
     tie.close
     (tie.spec
     mark-of-requires
-    opcode-of-requires
     fetch-requires
     fetch-requires-2
     read-arguments-requires

@@ -1,127 +1,48 @@
--- `machine::is_taken` meets its contract, opcode by opcode. Assumes nothing.
-use borrow.Author.Needs.{needs}
+-- `machine::is_taken` meets its contract, by the number of the opcode. Assumes nothing.
+use mathlib.Core.Path.{_≡_, refl}
+use mathlib.Core.Bool.{Bool, false}
+use Prim.Native.Nat.{ℕ, zero, suc}
+use Rattle.model.specs.Stored.{opcodeOf}
 use Rattle.model.specs.Step.{taken}
 use Rattle.machine.proofs.is_taken.Statement.{statement}
 use Rattle.machine.proofs.is_taken.Tie as tie
 
-enum-told : tie.Need-enum-told
-enum-told c = search needs
+-- an opcode's arm, over plain values
+arm : (k o x y : ℕ) (r : Bool) → o ≡ k → r ≡ taken (opcodeOf k) x y → r ≡ taken (opcodeOf o) x y
+arm k o x y r e h = rw e h
 
-enum-told-2 : tie.Need-enum-told-2
-enum-told-2 c = search needs
-
-enum-told-3 : tie.Need-enum-told-3
-enum-told-3 c = search needs
-
-enum-told-4 : tie.Need-enum-told-4
-enum-told-4 c = search needs
-
-enum-told-5 : tie.Need-enum-told-5
-enum-told-5 c = search needs
-
-enum-told-6 : tie.Need-enum-told-6
-enum-told-6 c = search needs
-
-enum-told-7 : tie.Need-enum-told-7
-enum-told-7 c = search needs
-
-enum-told-8 : tie.Need-enum-told-8
-enum-told-8 c = search needs
-
-enum-told-9 : tie.Need-enum-told-9
-enum-told-9 c = search needs
-
-enum-told-10 : tie.Need-enum-told-10
-enum-told-10 c = search needs
-
-enum-told-11 : tie.Need-enum-told-11
-enum-told-11 c = search needs
-
-enum-told-12 : tie.Need-enum-told-12
-enum-told-12 c = search needs
-
-enum-told-13 : tie.Need-enum-told-13
-enum-told-13 c = search needs
+-- every other number is that of a line that goes on, or of none
+stays : (o x y : ℕ) → (o ≡ 1 → ⊥) → (o ≡ 11 → ⊥) → (o ≡ 12 → ⊥) → false ≡ taken (opcodeOf o) x y
+unfolding taken
+stays zero x y h1 h11 h12 = refl
+stays (suc zero) x y h1 h11 h12 = absurd (h1 refl)
+stays (suc (suc zero)) x y h1 h11 h12 = refl
+stays (suc (suc (suc zero))) x y h1 h11 h12 = refl
+stays (suc (suc (suc (suc zero)))) x y h1 h11 h12 = refl
+stays (suc (suc (suc (suc (suc zero))))) x y h1 h11 h12 = refl
+stays (suc (suc (suc (suc (suc (suc zero)))))) x y h1 h11 h12 = refl
+stays (suc (suc (suc (suc (suc (suc (suc zero))))))) x y h1 h11 h12 = refl
+stays (suc (suc (suc (suc (suc (suc (suc (suc zero)))))))) x y h1 h11 h12 = refl
+stays (suc (suc (suc (suc (suc (suc (suc (suc (suc zero))))))))) x y h1 h11 h12 = refl
+stays (suc (suc (suc (suc (suc (suc (suc (suc (suc (suc zero)))))))))) x y h1 h11 h12 = refl
+stays (suc (suc (suc (suc (suc (suc (suc (suc (suc (suc (suc zero))))))))))) x y h1 h11 h12 = absurd (h11 refl)
+stays (suc (suc (suc (suc (suc (suc (suc (suc (suc (suc (suc (suc zero)))))))))))) x y h1 h11 h12 = absurd (h12 refl)
+stays (suc (suc (suc (suc (suc (suc (suc (suc (suc (suc (suc (suc (suc o))))))))))))) x y h1 h11 h12 = refl
 
 returns : tie.Need-returns
 unfolding taken
-returns c = cc
+returns c = arm 1 (c .before .args .o) _ _ _ (c .match .keys1) refl
 
 returns-2 : tie.Need-returns-2
 unfolding taken
-returns-2 c = cc
+returns-2 c = arm 11 (c .before .args .o) _ _ _ (c .match .keys2) refl
 
 returns-3 : tie.Need-returns-3
 unfolding taken
-returns-3 c = cc
+returns-3 c = arm 12 (c .before .args .o) _ _ _ (c .match .keys3) refl
 
 returns-4 : tie.Need-returns-4
-unfolding taken
-returns-4 c = cc
-
-returns-5 : tie.Need-returns-5
-unfolding taken
-returns-5 c = cc
-
-returns-6 : tie.Need-returns-6
-unfolding taken
-returns-6 c = cc
-
-returns-7 : tie.Need-returns-7
-unfolding taken
-returns-7 c = cc
-
-returns-8 : tie.Need-returns-8
-unfolding taken
-returns-8 c = cc
-
-returns-9 : tie.Need-returns-9
-unfolding taken
-returns-9 c = cc
-
-returns-10 : tie.Need-returns-10
-unfolding taken
-returns-10 c = cc
-
-returns-11 : tie.Need-returns-11
-unfolding taken
-returns-11 c = cc
-
-returns-12 : tie.Need-returns-12
-unfolding taken
-returns-12 c = cc
-
-returns-13 : tie.Need-returns-13
-unfolding taken
-returns-13 c = cc
+returns-4 c = let r = c .match .rest in stays (c .before .args .o) _ _ (r .0 .0 .1) (r .0 .1) (r .1)
 
 pub is-taken-spec : {M : Type 1} → statement M
-is-taken-spec =
-    tie.close
-    (tie.spec
-    enum-told
-    enum-told-2
-    enum-told-3
-    enum-told-4
-    enum-told-5
-    enum-told-6
-    enum-told-7
-    enum-told-8
-    enum-told-9
-    enum-told-10
-    enum-told-11
-    enum-told-12
-    enum-told-13
-    returns
-    returns-2
-    returns-3
-    returns-4
-    returns-5
-    returns-6
-    returns-7
-    returns-8
-    returns-9
-    returns-10
-    returns-11
-    returns-12
-    returns-13)
+is-taken-spec = tie.close (tie.spec returns returns-2 returns-3 returns-4)

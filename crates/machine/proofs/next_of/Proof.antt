@@ -10,7 +10,7 @@ use Rattle.model.specs.declared.Opcode.{Opcode}
 use Rattle.model.specs.declared.Opcode.the-variants.{Nop, Jmp, Not, Mov, And, Orr, Xor, Lsl, Lsr, Add, Mul, Beq, Bne}
 use Rattle.model.specs.declared.Line.{Line}
 use Rattle.model.specs.Places.{State}
-use Rattle.model.specs.Stored.{lineOf}
+use Rattle.model.specs.Stored.{opcodeOf, lineOf}
 use Rattle.model.specs.Step.{taken, targetLine, next}
 use Rattle.machine.specs.declared.Arguments.{Arguments}
 use Rattle.machine.specs.declared.Fetched.{Fetched}
@@ -98,9 +98,8 @@ returns-2 c =
     let y = c .before .before .before .before .fetch2 in
     let x = c .before .before .before .before .before .fetch in
     let m = c .before .before .before .before .before .before .mark-of in
-    let p = c .before .before .before .before .before .before .before .before .before .opcode-of in
     let s = c .before .before .before .before .before .before .before .before .before .before .before .args in
-    gone (lineOf (s .m) (s .o) 0 (s .a) (s .b) (s .t)) (s .counter) (s .state .now) (m .result) (p .result) (j .result) (x .result) (y .result) (z .result) _ _ (m .ensures) (p .ensures) (x .ensures) (y .ensures) (z .ensures) (j .ensures) (g .ensures) (n .ensures)
+    gone (lineOf (s .m) (s .o) 0 (s .a) (s .b) (s .t)) (s .counter) (s .state .now) (m .result) (opcodeOf (s .o)) (j .result) (x .result) (y .result) (z .result) _ _ (m .ensures) refl (x .ensures) (y .ensures) (z .ensures) (j .ensures) (g .ensures) (n .ensures)
 
 pub next-of-spec : {M : Type 1} → statement M
 next-of-spec =

@@ -1,5 +1,5 @@
 -- `machine::perform` meets its contract: the parts of a step from what each call gives. Assumes nothing.
-use mathlib.Core.Path.{_≡_, ap}
+use mathlib.Core.Path.{_≡_, refl, ap}
 use mathlib.Core.Bool.{Bool, cond}
 use mathlib.Core.List.{List}
 use Prim.Native.Nat.{ℕ, suc}
@@ -9,7 +9,7 @@ use Rattle.model.specs.declared.Mark.{Mark}
 use Rattle.model.specs.declared.Opcode.{Opcode}
 use Rattle.model.specs.declared.Line.{Line}
 use Rattle.model.specs.Places.{State, place, address}
-use Rattle.model.specs.Stored.{lineOf}
+use Rattle.model.specs.Stored.{opcodeOf, lineOf}
 use Rattle.model.specs.Step.{weight, alu, taken, targetLine, result, next, after, row}
 use Rattle.machine.specs.declared.Arguments.{Arguments}
 use Rattle.machine.specs.declared.Fetched.{Fetched}
@@ -40,9 +40,6 @@ performed l k s s′ m p j x y z q g n r o t em ep ex ey ez er ej eg en eq eo es
 mark-of-requires : tie.Need-mark-of-requires
 mark-of-requires c κs = search needs
 
-opcode-of-requires : tie.Need-opcode-of-requires
-opcode-of-requires c κs = search needs
-
 fetch-requires : tie.Need-fetch-requires
 fetch-requires c κs = search needs
 
@@ -50,7 +47,9 @@ fetch-requires-2 : tie.Need-fetch-requires-2
 fetch-requires-2 c κs = search needs
 
 mask-arguments-requires : tie.Need-mask-arguments-requires
-mask-arguments-requires c κs = ((c .before .before .before .before .before .before .before .pre .1), fetched-most (c .before .before .before .before .before .before .before .args .state .now) (c .before .before .before .before .before .before .before .args .a) _ (c .before .before .fetch .ensures), fetched-most (c .before .before .before .before .before .before .before .args .state .now) (c .before .before .before .before .before .before .before .args .b) _ (c .fetch2 .ensures))
+mask-arguments-requires c κs =
+    let s = c .before .before .before .before .before .before .args in
+    ((c .before .before .before .before .before .before .pre .1), fetched-most (s .state .now) (s .a) _ (c .before .before .fetch .ensures), fetched-most (s .state .now) (s .b) _ (c .fetch2 .ensures))
 
 alu-requires : tie.Need-alu-requires
 alu-requires c κs = search needs
@@ -83,13 +82,12 @@ returns c =
     let z = r .before in
     let y = z .before in
     let x = y .before .before in
-    let p = x .before .before in
-    let m = p .before in
+    let m = x .before .before in
     let s = m .before .before in
     performed (lineOf (s .args .m) (s .args .o) (s .args .d) (s .args .a) (s .args .b) (s .args .t)) (s .args .counter) (s .args .state .now) _
-    (m .mark-of .result) (p .opcode-of .result) (j .is-taken .result) (x .fetch .result) (y .fetch2 .result) (z .mask-arguments .result)
+    (m .mark-of .result) (opcodeOf (s .args .o)) (j .is-taken .result) (x .fetch .result) (y .fetch2 .result) (z .mask-arguments .result)
     (w .replace .result .place) _ _ _ _ (c .row-of .result)
-    (m .mark-of .ensures) (p .opcode-of .ensures) (x .fetch .ensures) (y .fetch2 .ensures) (z .mask-arguments .ensures)
+    (m .mark-of .ensures) refl (x .fetch .ensures) (y .fetch2 .ensures) (z .mask-arguments .ensures)
     (r .alu .ensures) (j .is-taken .ensures) (g .target-line .ensures) (n .advanced .ensures)
     (w .replace .ensures .0 .0) (w .replace .ensures .0 .1) (w .replace .ensures .1) (c .row-of .ensures)
 
@@ -98,7 +96,6 @@ perform-spec =
     tie.close
     (tie.spec
     mark-of-requires
-    opcode-of-requires
     fetch-requires
     fetch-requires-2
     mask-arguments-requires
