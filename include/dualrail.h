@@ -4,7 +4,7 @@
  * touched; an empty slice may have any pointer. The slices of one call must not overlap. Lengths count elements. docs/STORED-LINES.md
  * lays down the numbers of a stored line, docs/LANGUAGE.md lists the refusals.
  *
- * Room that is always enough: 13 lines of expansion for each line, 34 bytes of text for each line, 6 numbers of trace for each step of
+ * Room that is always enough: 17 lines of expansion for each line, 34 bytes of text for each line, 6 numbers of trace for each step of
  * the budget. A state has 544 bytes. Sets of values have 17 bytes for each place, in the order of the state: a count, 1 to 16, the values,
  * the rest ignored.
  *
@@ -29,7 +29,7 @@ uint64_t dualrail_read(const uint8_t *text, size_t text_length, uint16_t *store,
 /* Writes the text of a stored program; counts the bytes. Refusals 7, 3 to 6, 17. */
 uint64_t dualrail_write(const uint16_t *program, size_t program_length, uint8_t *out, size_t out_length);
 
-/* Checks the marks of a stored program; counts its lines. Refusals 7, 3 to 6, 9 to 16. */
+/* Checks the marks of a stored program; counts its lines. Refusals 7, 3 to 6, 9 to 16; 13 no longer occurs. */
 uint64_t dualrail_check(const uint16_t *program, size_t program_length);
 
 /* Writes the dual-rail expansion of an accepted program; counts its lines. The mark check's refusals, then 17. */

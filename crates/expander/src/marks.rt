@@ -1,5 +1,5 @@
-// Conditions 10 to 16 of a line, of which 13 no longer occurs, and the mark check of a program whose numbers are lines. The tests are made on the stored numbers
-// themselves, by the ranges that decode them; no line is made.
+// Conditions 10 to 16 of a line, of which 13 no longer occurs, and the mark check of a program whose numbers are lines. The tests are made
+// on the stored numbers themselves, by the ranges that decode them; no line is made.
 ghost use mathlib.Core.Path.{_≡_};
 ghost use Rattle.model.specs.Answers.{report};
 ghost use Rattle.model.specs.Places.{kindOf};

@@ -50,7 +50,7 @@ fn page_at(layout: Layout, i: usize) -> u8
     0
 }
 
-// What an image holds where neither a public nor a sensitive place is: 0 in r0 to r3, then the tables.
+// What an image holds where neither a public nor a sensitive place is: 0 in r0 to r3, then the table page.
 fn fixed_at(layout: Layout, i: usize) -> u8
     requires { ⌜ Known layout ⌝ }
     ensures { λ r. ⌜ r ≡ fixed layout i ⌝ }

@@ -252,17 +252,22 @@ fn read_arguments(mark: Mark, x: Fetched, y: Fetched) -> Arguments
     }
 }
 
+// What a marked line keeps of a byte: its lowest bit, or all of it.
+const LOWEST: u8 = 1;
+
+const WHOLE: u8 = 255;
+
 // The places of a state, and the one past them, which is none.
 const MASKS: usize = STATE_SIZE + 1;
 
-// What a marked line keeps of a byte at a place.
+// What it keeps of a byte at a place.
 fn mask_at(i: usize) -> u8
     ensures { λ r. ⌜ r ≡ mask i ⌝ }
 {
     if coding::is_public(coding::kind_at(i)) {
-        1
+        LOWEST
     } else {
-        255
+        WHOLE
     }
 }
 

@@ -149,7 +149,7 @@ public-operand b (PublicCell x k) f r s p = base-of x (ltb→lt x 32 (and-both b
 public-operand b (SensitiveCell x k) f r s p = p
 public-operand b (TableCell x k) f r s p = r
 
--- a place that is not sensitive is public
+-- an argument of public kind is a public operand
 public-argument : (o : Operand) → Clean o → isPublic (kindOf o) ≡ true → PublicOperand o
 public-argument o c e = public-operand true o (c .range) (c .named) (c .based) (by (kindOf o) e)
   where

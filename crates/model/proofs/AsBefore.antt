@@ -25,14 +25,11 @@ use Rattle.model.specs.Layouts.{neighbours}
 use Rattle.model.specs.Marks.{isAbove, holds10, holds11, holds12, holds14, holds15, holds16, markFault, firstBad, marksOf, markCheck, Accepted}
 use Rattle.model.specs.Expansion.{coded, shifts, scale, combine, fetch, flip, writeBack, lookup, negate, copy, codeBit, load, macro, newTarget, partOf, part, size, start, joined, expand, written, expansionIn, expandOutcome}
 use Rattle.model.specs.Before.{lookupBefore, negateBefore, copyBefore, macroBefore, partBefore, startBefore, expandBefore, holds13, targetsBefore, Never, NoneHeld, AcceptedBefore, AsBefore}
+use Rattle.model.proofs.StoredLaws.{no-false}
 use Rattle.model.proofs.Acceptance.{mk, nor-T, clear, AllRight, accepted-right}
 use Rattle.model.proofs.Loads.{coded-kind}
 
 -- ---- the expansion
-
-is-false : (b : Bool) → T (not b) → b ≡ false
-is-false true h = absurd h
-is-false false h = refl
 
 macro-before : (op : Opcode) (d a b : Operand) → isPublic (kindOf a) ≡ false → isPublic (kindOf b) ≡ false → macro neighbours op d a b ≡ macroBefore op d a b
 unfolding macro macroBefore lookup negate copy load codeBit shifts scale combine fetch flip writeBack lookupBefore negateBefore copyBefore
@@ -64,7 +61,7 @@ module _ (f g : ℕ → ℕ) (same : (i : ℕ) → f i ≡ g i) where
   line-before Marked op d a b t h =
       let p = nor-T (isPublic (kindOf a)) (isPublic (kindOf b)) h in
       macro-before op d (coded neighbours a) (coded neighbours b)
-      (ap isPublic (coded-kind neighbours a) ∙ is-false (isPublic (kindOf a)) (p .0)) (ap isPublic (coded-kind neighbours b) ∙ is-false (isPublic (kindOf b)) (p .1))
+      (ap isPublic (coded-kind neighbours a) ∙ no-false (isPublic (kindOf a)) (p .0)) (ap isPublic (coded-kind neighbours b) ∙ no-false (isPublic (kindOf b)) (p .1))
 
   part-before : (l : Line) → T (not (holds13 l)) → part neighbours f l ≡ partBefore (l .mark) g l
   part-before l h = line-before (l .mark) (l .opcode) (l .destination) (l .first) (l .second) (l .target) h
@@ -90,7 +87,7 @@ expand-before p h = joined-before (start neighbours p) (startBefore p) (start-be
 no-fault : (n : ℕ) (l : Line) → NoneHeld n l → markFault n l ≡ 0
 unfolding markFault
 no-fault n l h =
-    rw (is-false (holds10 l) (h .0), is-false (holds11 l) (h .1), is-false (holds12 l) (h .2), is-false (holds14 l) (h .4), is-false (holds15 l) (h .5), is-false (holds16 n l) (h .6))
+    rw (no-false (holds10 l) (h .0), no-false (holds11 l) (h .1), no-false (holds12 l) (h .2), no-false (holds14 l) (h .4), no-false (holds15 l) (h .5), no-false (holds16 n l) (h .6))
 
 none-held : (n : ℕ) (l : Line) → markFault n l ≡ 0 → T (not (holds13 l)) → NoneHeld n l
 none-held n l e h = let c = clear n l e in (c .c10, c .c11, c .c12, h, c .c14, c .c15, c .c16)

@@ -7,7 +7,6 @@ use Rattle.model.specs.declared.Mark.the-variants.{Unmarked, Marked}
 use Rattle.model.specs.declared.Opcode.the-variants.{Not, And, Orr, Xor, Lsl, Beq}
 use Rattle.model.specs.declared.Operand.the-variants.{Empty, Literal, Register, Cell, PublicCell, SensitiveCell, TableCell}
 use Rattle.model.specs.declared.Target.the-variants.{Line as ToLine}
-use Rattle.model.specs.declared.Line.{Line}
 use Rattle.model.specs.Layouts.{neighbours}
 use Rattle.model.specs.Places.{State, address, value}
 use Rattle.model.specs.Step.{meaning, argument, result, next}
@@ -37,7 +36,7 @@ examples =
     ∷ pair (argument Marked (Literal 255) full) 255
     ∷ pair (argument Unmarked (Register 4) full) 255
     -- under every opcode: a shift by the lowest bit of r4, and a branch that compares it with a literal, which is read whole
-    ∷ pair (result (mk Marked Lsl (Register 16) (Literal 3) (Register 4) (ToLine 0)) full) 6
+    ∷ pair (result (markedLine Lsl (Register 16) (Literal 3) (Register 4)) full) 6
     ∷ pair (next (mk Marked Beq Empty (Register 4) (Literal 1) (ToLine 9)) 0 full) 9
     ∷ pair (next (mk Marked Beq Empty (Register 4) (Literal 255) (ToLine 9)) 0 full) 1
     -- a base is read whole

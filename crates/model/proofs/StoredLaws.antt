@@ -334,7 +334,7 @@ pub record Fields (l : Line) : Type 0 where
   pub second : T (operandRight (fills (l .opcode) .second) (l .second))
   pub target : T (targetRight (fills (l .opcode) .target) (l .target))
 
-no-false : (t : Bool) → T (not t) → t ≡ false
+pub no-false : (t : Bool) → T (not t) → t ≡ false
 no-false true h = absurd h
 no-false false h = refl
 

@@ -105,7 +105,7 @@ holds13 l = isMarked (l .mark) && (isPublic (kindOf (l .first)) || isPublic (kin
 abbrev pub targetsBefore : ℕ
 targetsBefore = 16384
 
--- a test that fails of every line
+-- a test that holds of no line
 abbrev pub Never : (Line → Bool) → List Line → Type 0
 Never f = Every (λ l. T (not (f l)))
 
@@ -122,8 +122,8 @@ pub record AcceptedBefore (p : List Line) : Type 0 where
 
 -- ---- the claim
 
--- these programs are those accepted now of which 13 would hold in no line; they expand as before, and without 13 all programs do; so the
--- expander answers what it answered
+-- these programs are those accepted now of which 13 would hold in no line; they expand as before, as does every program of which 13 would
+-- hold in no line, accepted or not; so the expander answers what it answered
 pub record AsBefore : Type 0 where
   pub accepted : (p : List Line) → AcceptedBefore p → Accepted p × Never holds13 p
   pub were-accepted : (p : List Line) → Accepted p → Never holds13 p → AcceptedBefore p

@@ -35,7 +35,7 @@ unfoldable pub mapAt : (ℕ → ℕ → ℕ) → ℕ → List ℕ → List ℕ
 mapAt f i [] = []
 mapAt f i (x ∷ xs) = f i x ∷ mapAt f (suc i) xs
 
--- what an image holds where neither a public nor a sensitive place is: 0 in r0 to r3, then the tables
+-- what an image holds where neither a public nor a sensitive place is: 0 in r0 to r3, then the table page
 unfoldable pub fixed : Layout → ℕ → ℕ
 unfolding page
 fixed L i = cond (ltb i 4) 0 (page L (i - 288))

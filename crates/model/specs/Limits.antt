@@ -1,4 +1,4 @@
--- The bounds of document 01, each under one name.
+-- The bounds of document 01, as the requests change them, each under one name.
 -- Assumes nothing.
 use Prim.Native.Nat.{ℕ}
 

@@ -1,13 +1,13 @@
 // Req 01, the verdict on patched listings: a walk over a stored program whose steps work on sets of values. specs/Walk has the definitions,
 // specs/Claims what a verdict means; sets.rt has the bytes of sets, choices.rt what a line does in all states of the sets.
 ghost use mathlib.Core.Path.{_≡_};
+ghost use mathlib.Core.List.{map};
 ghost use Prim.Native.Nat.{ℕ, _*_, _<_, _≤_};
 ghost use lib.Dec.{T};
-ghost use mathlib.Core.List.{map};
-ghost use Rattle.model.specs.Places.{kind};
-ghost use Rattle.model.specs.Step.{meaning};
 ghost use lib.ListN.{length, getD};
 ghost use Rattle.model.specs.Limits.{stateSize, lineWidth, maxLines};
+ghost use Rattle.model.specs.Places.{kind};
+ghost use Rattle.model.specs.Step.{meaning};
 ghost use Rattle.model.specs.Stored.{operandOf, lineCount, lines};
 ghost use Rattle.walk.specs.Walk.{setWidth, maxValues, listed, listsOf, setsOf, sized, values, distinct, heads, branches, loose, unsettled, onto, walk, told, verdictReport};
 ghost use Rattle.walk.specs.Claims.{Full};

@@ -75,7 +75,9 @@ pub fn reach(operand: Operand, sets: &[Values]) -> BTreeSet<usize> {
 fn values(line: &Line, argument: Operand, sets: &[Values]) -> Values {
     let mut values = Values::new();
     let alone = Line { destination: None, first: Some(argument), second: None, ..*line };
-    choices(&alone, sets, &mut |state| values.extend([value(line.marked, alone.first, state)]));
+    choices(&alone, sets, &mut |state| {
+        values.insert(value(line.marked, alone.first, state));
+    });
     values
 }
 

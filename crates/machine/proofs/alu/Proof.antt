@@ -1,5 +1,5 @@
 -- `machine::alu` meets its contract, by the number of the opcode. Assumes nothing.
-use mathlib.Core.Path.{_≡_, refl, _∙_}
+use mathlib.Core.Path.{_≡_, refl}
 use Prim.Native.Nat.{ℕ, zero, suc}
 use borrow.Author.Needs.{needs}
 use Rattle.model.specs.declared.Mark.{Mark}

@@ -49,7 +49,7 @@ fetch-requires-2 c κs = search needs
 mask-arguments-requires : tie.Need-mask-arguments-requires
 mask-arguments-requires c κs =
     let s = c .before .before .before .before .before .before .args in
-    ((c .before .before .before .before .before .before .pre .1), fetched-most (s .state .now) (s .a) _ (c .before .before .fetch .ensures), fetched-most (s .state .now) (s .b) _ (c .fetch2 .ensures))
+    (c .before .before .before .before .before .before .pre .1, fetched-most (s .state .now) (s .a) _ (c .before .before .fetch .ensures), fetched-most (s .state .now) (s .b) _ (c .fetch2 .ensures))
 
 alu-requires : tie.Need-alu-requires
 alu-requires c κs = search needs

@@ -36,7 +36,7 @@ returns c =
     sym (spends _ _ _ (machine (l .run) (l .state) (l .trace)) (c .before .before .if1 .taken) (omega arith)) ∙ l .inv .3
 
 step-requires : tie.Need-step-requires Inv-loop μ-loop
-step-requires c κs = ((c .before .before .before .before .before .before .before .before .all-masks .ensures), omega arith, omega arith, omega arith)
+step-requires c κs = (c .before .before .before .before .before .before .before .before .all-masks .ensures, omega arith, omega arith, omega arith)
 
 loop-less : tie.Need-loop-less Inv-loop μ-loop
 loop-less c =

@@ -68,7 +68,7 @@ abbrev μ-loop : tie.MeasureT-loop
 μ-loop mark sets i n found₀ j₀ found j = n - j
 
 size-of-requires : tie.Need-size-of-requires Inv-loop μ-loop
-size-of-requires c κs = (c .before .pre)
+size-of-requires c κs = c .before .pre
 
 loop-holds : tie.Need-loop-holds Inv-loop μ-loop
 loop-holds c = record { most = omega arith; long = search needs; count = omega arith; few-noted = omega arith; same = refl }
@@ -77,7 +77,7 @@ slice-aggregate-note : tie.Need-slice-aggregate-note Inv-loop μ-loop
 slice-aggregate-note c = search needs
 
 value-of-requires : tie.Need-value-of-requires Inv-loop μ-loop
-value-of-requires c κs = ((c .before .before .before .before .before .pre), omega (arith, c .before .before .before .size-of .ensures))
+value-of-requires c κs = (c .before .before .before .before .before .pre, omega (arith, c .before .before .before .size-of .ensures))
 
 argument-requires : tie.Need-argument-requires Inv-loop μ-loop
 argument-requires c κs = search needs

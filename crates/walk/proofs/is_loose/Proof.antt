@@ -1,6 +1,6 @@
 -- `walk::is_loose` meets its contract: the base, then what the place may mean. Assumes nothing.
 use mathlib.Core.Path.{_≡_, sym, ap, _∙_}
-use mathlib.Core.Bool.{Bool, true, false}
+use mathlib.Core.Bool.{true, false}
 use mathlib.Core.List.{List, map}
 use Prim.Native.Nat.{ℕ, suc, _≤_}
 use native.Mathlib.Omega.{arith}
@@ -9,7 +9,7 @@ use lib.ListN.{length, getD}
 use Rattle.model.specs.declared.Kind.{Kind}
 use Rattle.model.specs.declared.Mark.{Mark}
 use Rattle.model.specs.declared.Operand.{Operand}
-use Rattle.model.specs.Places.{State, kind, kindOf, place}
+use Rattle.model.specs.Places.{State, kind, place}
 use Rattle.model.specs.Step.{meaning}
 use Rattle.model.specs.Stored.{operandOf}
 use Rattle.model.proofs.Operands.{kind-place}
@@ -40,7 +40,7 @@ base-of-requires : tie.Need-base-of-requires
 base-of-requires c κs = search needs
 
 is-several-requires : tie.Need-is-several-requires
-is-several-requires c κs = (c .before .before .before .pre .0)
+is-several-requires c κs = c .before .before .before .pre .0
 
 returns : tie.Need-returns
 returns c =
@@ -51,7 +51,7 @@ place-at-requires : tie.Need-place-at-requires
 place-at-requires c κs = search needs
 
 distinct-at-requires : tie.Need-distinct-at-requires
-distinct-at-requires c κs = (c .before .before .before .before .before .before .pre .0)
+distinct-at-requires c κs = c .before .before .before .before .before .before .pre .0
 
 array-read-result : tie.Need-array-read-result
 array-read-result c = search needs

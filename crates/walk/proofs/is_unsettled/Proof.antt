@@ -39,7 +39,7 @@ base-of-requires : tie.Need-base-of-requires
 base-of-requires c κs = search needs
 
 is-several-requires : tie.Need-is-several-requires
-is-several-requires c κs = (c .before .before .before .before .before .pre .1)
+is-several-requires c κs = c .before .before .before .before .before .pre .1
 
 returns : tie.Need-returns
 returns c =
@@ -65,7 +65,7 @@ shared-slice-read-is-loose : tie.Need-shared-slice-read-is-loose
 shared-slice-read-is-loose c = search needs
 
 is-loose-requires : tie.Need-is-loose-requires
-is-loose-requires c κs = ((c .before .before .before .before .before .before .before .before .before .before .before .before .before .before .pre .1), (c .before .before .before .before .before .before .before .before .before .before .before .before .before .before .pre .2))
+is-loose-requires c κs = (c .before .before .before .before .before .before .before .before .before .before .before .before .before .before .pre .1, c .before .before .before .before .before .before .before .before .before .before .before .before .before .before .pre .2)
 
 returns-2 : tie.Need-returns-2
 returns-2 c =
@@ -77,7 +77,7 @@ shared-slice-read-is-loose-2 : tie.Need-shared-slice-read-is-loose-2
 shared-slice-read-is-loose-2 c = search needs
 
 is-loose-requires-2 : tie.Need-is-loose-requires-2
-is-loose-requires-2 c κs = ((c .before .before .before .before .before .before .before .before .before .before .before .before .before .before .before .before .before .pre .1), (c .before .before .before .before .before .before .before .before .before .before .before .before .before .before .before .before .before .pre .2))
+is-loose-requires-2 c κs = (c .before .before .before .before .before .before .before .before .before .before .before .before .before .before .before .before .before .pre .1, c .before .before .before .before .before .before .before .before .before .before .before .before .before .before .before .before .before .pre .2)
 
 returns-3 : tie.Need-returns-3
 returns-3 c =

@@ -13,7 +13,7 @@ add-put-precharged : tie.Need-add-put-precharged
 add-put-precharged c = search needs
 
 put-precharged-requires : tie.Need-put-precharged-requires
-put-precharged-requires c κs = omega (arith, (c .before .before .pre .1), load-bounds (c .before .before .args .n) (operandOf (c .before .before .args .a)))
+put-precharged-requires c κs = omega (arith, c .before .before .pre .1, load-bounds (c .before .before .args .n) (operandOf (c .before .before .args .a)))
 
 kind-of-requires : tie.Need-kind-of-requires
 kind-of-requires c κs = search needs
@@ -25,7 +25,7 @@ put-code-bit-requires : tie.Need-put-code-bit-requires
 put-code-bit-requires c κs =
     let e = public-told (operandOf (c .before .before .before .before .before .before .before .before .before .args .a)) (c .before .before .before .kind-of .ensures) (c .before .before .is-public .ensures) (c .before .if1 .taken) in
     let w = c .before .before .before .before .before .before .put-precharged .ensures in
-    ((c .before .before .before .before .before .before .before .before .before .pre .0), omega (arith, (c .before .before .before .before .before .before .before .before .before .pre .1), load-public (c .before .before .before .before .before .before .before .before .before .args .n) (operandOf (c .before .before .before .before .before .before .before .before .before .args .a)) e, w .ends, w .long))
+    (c .before .before .before .before .before .before .before .before .before .pre .0, omega (arith, c .before .before .before .before .before .before .before .before .before .pre .1, load-public (c .before .before .before .before .before .before .before .before .before .args .n) (operandOf (c .before .before .before .before .before .before .before .before .before .args .a)) e, w .ends, w .long))
 
 same-length : tie.Need-same-length
 same-length c = search needs

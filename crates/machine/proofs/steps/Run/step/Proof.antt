@@ -50,7 +50,7 @@ array-read-perform-6 : tie.Need-array-read-perform-6
 array-read-perform-6 c = search needs
 
 perform-requires : tie.Need-perform-requires
-perform-requires c κs = (search needs, (c .before .before .before .before .before .pre .0))
+perform-requires c κs = (search needs, c .before .before .before .before .before .pre .0)
 
 cast-write-row : tie.Need-cast-write-row
 cast-write-row c = search needs
