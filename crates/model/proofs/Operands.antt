@@ -100,10 +100,6 @@ steady-public (PublicCell r k) h = h
 steady-public (SensitiveCell r k) h = absurd h
 steady-public (TableCell r k) h = h
 
-pub steady-marked : (o : Operand) → MarkedArgument o → Steady o
-steady-marked o (public-bit e h) = steady-public o h
-steady-marked o (sensitive-bit e h) = steady-argument o h
-
 module _ (s t : State) (h : SamePublic s t) where
   base-same : (r : ℕ) → Base r → getD s r 0 ≡ getD t r 0
   unfolding SamePublic
