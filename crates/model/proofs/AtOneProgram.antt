@@ -1,5 +1,5 @@
 -- Both claims of demand 3, computed at one small program for all its sensitive bits: an instance that the general proof does not lean
--- on, and that an edit of a macro breaks first where it changes what the macro shows or leaves. Assumes nothing.
+-- on, and that an edit of a macro breaks where it changes what the macro shows or leaves. Assumes nothing.
 use mathlib.Core.Path.{refl}
 use mathlib.Core.Bool.{Bool, true, false, _&&_}
 use mathlib.Core.List.{List, [], _∷_}
