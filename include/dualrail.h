@@ -8,6 +8,10 @@
  * the budget. A state has 544 bytes. Sets of values have 17 bytes for each place, in the order of the state: a count, 1 to 16, the values,
  * the rest ignored.
  *
+ * A layout says which two bits a code has. It is two numbers: a position of 0, 1 or 2, then a spacing, 0 for neighbouring bits or 1 for bits
+ * with one between. An expansion runs on images of its own layout; nothing in the 544 bytes names it but the codes. Other numbers are
+ * refused with 23 at line 0, before all else.
+ *
  * An answer is one number. Of all functions but the last two: number * 2^32 + value, where number 0 is success and value its count, and
  * any other number is a refusal and value its line. Of dualrail_run and dualrail_judge: ending * 2^32 + counter * 2^16 + steps, ending 0
  * halted or balanced, 1 spent and 2 a leak, with its line for the counter, or, refused, number * 2^48 + line. A refusal leaves all lent
@@ -32,14 +36,17 @@ uint64_t dualrail_write(const uint16_t *program, size_t program_length, uint8_t 
 /* Checks the marks of a stored program; counts its lines. Refusals 7, 3 to 6, 9 to 16; 13 no longer occurs. */
 uint64_t dualrail_check(const uint16_t *program, size_t program_length);
 
-/* Writes the dual-rail expansion of an accepted program; counts its lines. The mark check's refusals, then 17. */
-uint64_t dualrail_expand(const uint16_t *program, size_t program_length, uint16_t *out, size_t out_length);
+/* Writes the dual-rail expansion of an accepted program in a layout; counts its lines. Refusals 23, the mark check's, then 17. */
+uint64_t dualrail_expand(uint8_t position, uint8_t spacing, const uint16_t *program, size_t program_length, uint16_t *out,
+                         size_t out_length);
 
-/* Makes the image of a bit state; counts 544 bytes. Refusals 18, 19. */
-uint64_t dualrail_to_image(const uint8_t *bits, size_t bits_length, uint8_t *image, size_t image_length);
+/* Makes the image of a bit state in a layout; counts 544 bytes. Refusals 23, 18, 19. */
+uint64_t dualrail_to_image(uint8_t position, uint8_t spacing, const uint8_t *bits, size_t bits_length, uint8_t *image,
+                           size_t image_length);
 
-/* Goes the way back from an image to its bit state; counts 544 bytes. Refusals 18, 19. */
-uint64_t dualrail_from_image(const uint8_t *image, size_t image_length, uint8_t *bits, size_t bits_length);
+/* Goes the way back from an image in a layout to its bit state; counts 544 bytes. Refusals 23, 18, 19. */
+uint64_t dualrail_from_image(uint8_t position, uint8_t spacing, const uint8_t *image, size_t image_length, uint8_t *bits,
+                             size_t bits_length);
 
 /* Runs a stored program from a start counter with a budget of steps, changes the state and writes a row of six numbers for each step.
  * Refusals 7, 3 to 6, 18, 20. */

@@ -72,6 +72,33 @@ fn small(number: u64) -> u16 {
     number as u16
 }
 
+/// A layout of the bit pairs as it is handed over (request 04): the position, then 0 for neighbouring bits
+/// or 1 for spaced ones. Any two numbers can be handed over; six pairs of them are a layout.
+#[derive(Clone, Copy, Debug, PartialEq, Eq)]
+pub struct Layout {
+    pub position: u8,
+    pub spacing: u8,
+}
+
+impl Layout {
+    /// Neighbours at position 0, as the two programs print.
+    pub const LOWEST: Layout = Layout::at(0, 0);
+
+    /// The six.
+    pub const ALL: [Layout; 6] = [
+        Layout::LOWEST,
+        Layout::at(1, 0),
+        Layout::at(2, 0),
+        Layout::at(0, 1),
+        Layout::at(1, 1),
+        Layout::at(2, 1),
+    ];
+
+    pub const fn at(position: u8, spacing: u8) -> Layout {
+        Layout { position, spacing }
+    }
+}
+
 /// The eight entry points.
 pub trait Dualrail {
     /// Reads a text into stored lines.
@@ -80,12 +107,12 @@ pub trait Dualrail {
     fn write(&self, program: &[u16], out: &mut [u8]) -> Answer;
     /// The mark check of a stored program.
     fn check(&self, program: &[u16]) -> Answer;
-    /// Expands a stored program, mark check included.
-    fn expand(&self, program: &[u16], out: &mut [u16]) -> Answer;
-    /// Makes the image of a bit state.
-    fn to_image(&self, bits: &[u8], image: &mut [u8]) -> Answer;
-    /// Makes the bit state of an image.
-    fn from_image(&self, image: &[u8], bits: &mut [u8]) -> Answer;
+    /// Expands a stored program for images of the layout, mark check included.
+    fn expand(&self, layout: Layout, program: &[u16], out: &mut [u16]) -> Answer;
+    /// Makes the image of a bit state in the layout.
+    fn to_image(&self, layout: Layout, bits: &[u8], image: &mut [u8]) -> Answer;
+    /// Makes the bit state of an image in the layout.
+    fn from_image(&self, layout: Layout, image: &[u8], bits: &mut [u8]) -> Answer;
     /// Runs a stored program, a trace row for each step.
     fn run(&self, program: &[u16], start: u16, budget: u16, state: &mut [u8], trace: &mut [u16]) -> Answer;
     /// Judges a stored program, with 17 bytes for each place: how many values it may have, and these.

@@ -2,7 +2,7 @@
 //! Answer, lent memory, the guard values around it and the inputs must be the
 //! same afterwards. The rules about whole runs are tested on the answers too.
 
-use crate::answer::{Answer, Dualrail};
+use crate::answer::{Answer, Dualrail, Layout};
 use crate::generate as make;
 use crate::lent::Lent;
 use crate::paper::walk::SET;
@@ -23,55 +23,64 @@ pub enum Entry {
     Judge,
 }
 
+/// The entry points that take a layout.
+pub const WITH_LAYOUT: [Entry; 3] = [Entry::Expand, Entry::ToImage, Entry::FromImage];
+
+/// What is handed over besides memory; what an entry point does not have is 0.
+#[derive(Clone, Copy, Debug, PartialEq)]
+struct Small {
+    layout: Layout,
+    start: u16,
+    budget: u16,
+}
+
+const NONE: Small = Small { layout: Layout::LOWEST, start: 0, budget: 0 };
+
 /// One call with all its memory; parts that an entry point does not have are empty.
 #[derive(Clone, PartialEq)]
 struct Call {
     entry: Entry,
+    small: Small,
     bytes: Lent<u8>,
     numbers: Lent<u16>,
-    start: u16,
-    budget: u16,
     lent_bytes: Lent<u8>,
     lent_numbers: Lent<u16>,
 }
 
 impl Call {
     fn make(&mut self, on: &dyn Dualrail) -> Answer {
+        let Small { layout, start, budget } = self.small;
         let (bytes, numbers) = (self.bytes.part(), self.numbers.part());
+        let (lent_bytes, lent_numbers) = (self.lent_bytes.part_mut(), self.lent_numbers.part_mut());
         match self.entry {
-            Entry::Read => on.read(bytes, self.lent_numbers.part_mut()),
-            Entry::Write => on.write(numbers, self.lent_bytes.part_mut()),
+            Entry::Read => on.read(bytes, lent_numbers),
+            Entry::Write => on.write(numbers, lent_bytes),
             Entry::Check => on.check(numbers),
-            Entry::Expand => on.expand(numbers, self.lent_numbers.part_mut()),
-            Entry::ToImage => on.to_image(bytes, self.lent_bytes.part_mut()),
-            Entry::FromImage => on.from_image(bytes, self.lent_bytes.part_mut()),
-            Entry::Run => on.run(
-                numbers,
-                self.start,
-                self.budget,
-                self.lent_bytes.part_mut(),
-                self.lent_numbers.part_mut(),
-            ),
-            Entry::Judge => on.judge(numbers, bytes, self.budget),
+            Entry::Expand => on.expand(layout, numbers, lent_numbers),
+            Entry::ToImage => on.to_image(layout, bytes, lent_bytes),
+            Entry::FromImage => on.from_image(layout, bytes, lent_bytes),
+            Entry::Run => on.run(numbers, start, budget, lent_bytes, lent_numbers),
+            Entry::Judge => on.judge(numbers, bytes, budget),
         }
+    }
+
+    /// What the paper answers to the same call in another layout.
+    fn answer_in(&self, layout: Layout) -> Answer {
+        Call { small: Small { layout, ..self.small }, ..self.clone() }.make(&Paper)
     }
 
     fn show(&self) -> String {
         let text = String::from_utf8_lossy(self.bytes.part()).into_owned();
-        let mut shown = format!("{:?}\n", self.entry);
+        let mut shown = format!("{:?}, {:?}\n", self.entry, self.small);
         match self.entry {
             Entry::Read => shown += &(format!("text as string: {text:.20000?}\n") + &self.bytes.show("text")),
             Entry::ToImage | Entry::FromImage => shown += &self.bytes.show("state"),
             _ => shown += &(self.numbers.show("program") + &show_lines(self.numbers.part())),
         }
-        if self.entry == Entry::Run {
-            shown += &format!("start {}, budget {}\n", self.start, self.budget);
-            shown += &self.lent_bytes.show("state");
-        } else if self.entry == Entry::Judge {
-            shown += &format!("budget {}\n", self.budget);
-            shown += &show_sets(self.bytes.part());
-        } else {
-            shown += &format!("lent bytes: {}\n", self.lent_bytes.part().len());
+        match self.entry {
+            Entry::Run => shown += &self.lent_bytes.show("state"),
+            Entry::Judge => shown += &show_sets(self.bytes.part()),
+            _ => shown += &format!("lent bytes: {}\n", self.lent_bytes.part().len()),
         }
         shown + &format!("lent numbers: {}\n", self.lent_numbers.part().len())
     }
@@ -99,7 +108,7 @@ fn show_sets(bytes: &[u8]) -> String {
 pub struct Counts {
     pub calls: u64,
     pub entries: [u64; 8],
-    pub refusals: [u64; 23],
+    pub refusals: [u64; 24],
     pub halted: u64,
     pub spent: u64,
     pub steps: u64,
@@ -107,7 +116,7 @@ pub struct Counts {
     pub balanced: u64,
     pub spent_walks: u64,
     pub leaks: u64,
-    pub refused_walks: [u64; 23],
+    pub refused_walks: [u64; 24],
     pub crowded: u64,
     pub steps_on_sets: u64,
     /// Runs from states drawn out of a walk's sets, and leaks that two such runs show.
@@ -115,15 +124,75 @@ pub struct Counts {
     pub leaks_shown: u64,
     /// Verdicts on one step compared with all states: without leak, with one.
     pub exact: [u64; 2],
-    /// Accepted programs that went the whole way, and the sizes of what was compared there.
-    pub whole_runs: u64,
+    /// Of each entry point with a layout: its successes in each of the six.
+    pub in_layout: [[u64; 6]; 3],
+    /// Its refusals 23: of a position outside, a spacing outside, both.
+    pub outside: [[u64; 3]; 3],
+    /// The same by what the call is refused with in neighbours at position 0, at 0 if it is not.
+    pub before: [[u64; 24]; 3],
+    /// Images refused in their layout that another one takes.
+    pub other_images: u64,
+    /// Accepted programs that went the whole way in each layout, and the sizes of what was compared there.
+    pub whole_runs: [u64; 6],
     pub equal_rows: u64,
     pub followed_steps: u64,
     /// Those of them with a public bit in a marked line.
     pub public_bits: u64,
+    /// Walks of their expansions on the images of each layout: balanced, spent.
+    pub image_walks: [[u64; 2]; 6],
+}
+
+/// Which of the six a layout is.
+fn which(layout: Layout) -> usize {
+    Layout::ALL.iter().position(|&one| one == layout).expect("one of the six")
 }
 
 impl Counts {
+    /// Counts a call that was answered so.
+    fn add(&mut self, call: &Call, answer: Answer) {
+        self.calls += 1;
+        self.entries[call.entry as usize] += 1;
+        let walk = call.entry == Entry::Judge;
+        match answer {
+            Answer::Counted(_) => (),
+            Answer::Refused { number, .. } => {
+                self.refusals[number as usize] += 1;
+                self.refused_walks[number as usize] += walk as u64;
+            }
+            Answer::Halted { .. } => self.halted += 1,
+            Answer::Spent { .. } if walk => self.spent_walks += 1,
+            Answer::Spent { .. } => self.spent += 1,
+            Answer::Balanced { .. } => self.balanced += 1,
+            Answer::Leak { .. } => self.leaks += 1,
+        }
+        let tally = if walk { &mut self.steps_on_sets } else { &mut self.steps };
+        *tally += steps(answer) as u64;
+        if let Some(entry) = WITH_LAYOUT.iter().position(|&entry| entry == call.entry) {
+            self.add_layout(entry, call, answer);
+        }
+    }
+
+    /// Counts a call of one of the entry points with a layout.
+    fn add_layout(&mut self, entry: usize, call: &Call, answer: Answer) {
+        let Layout { position, spacing } = call.small.layout;
+        match answer {
+            Answer::Counted(_) => self.in_layout[entry][which(call.small.layout)] += 1,
+            Answer::Refused { number: 23, .. } => {
+                self.outside[entry][if position <= 2 { 1 } else { 2 * (spacing > 1) as usize }] += 1;
+                let number = match call.answer_in(Layout::LOWEST) {
+                    Answer::Refused { number, .. } => number,
+                    _ => 0,
+                };
+                self.before[entry][number as usize] += 1;
+            }
+            Answer::Refused { number: 19, .. } if call.entry == Entry::FromImage => {
+                let taken = |&layout: &Layout| matches!(call.answer_in(layout), Answer::Counted(_));
+                self.other_images += Layout::ALL.iter().any(taken) as u64;
+            }
+            _ => (),
+        }
+    }
+
     pub fn show(&self) -> String {
         let mut shown = format!("{} calls:", self.calls);
         let entries = [
@@ -139,28 +208,44 @@ impl Counts {
         for entry in entries {
             shown += &format!(" {entry:?} {}", self.entries[entry as usize]);
         }
-        shown += "\nrefusals:";
-        for (number, count) in self.refusals.iter().enumerate().skip(1) {
-            shown += &format!(" {number}: {count}");
-        }
+        shown += &format!("\nrefusals: {}", numbered(&self.refusals));
         shown += &format!("\nruns: {} halted, {} spent, {} steps", self.halted, self.spent, self.steps);
         shown += &format!(
             "\nwalks: {} balanced, {} spent, {} leaks, {} steps",
             self.balanced, self.spent_walks, self.leaks, self.steps_on_sets
         );
-        for (number, count) in self.refused_walks.iter().enumerate().filter(|(_, &count)| count > 0) {
-            shown += &format!(", {number}: {count}");
-        }
         shown += &format!(
-            " ({} at a step); {} runs drawn, {} leaks shown by them; one step, all states: {:?} without and with leak",
-            self.crowded, self.drawn_runs, self.leaks_shown, self.exact
+            ", {} ({} at a step); {} runs drawn, {} leaks shown by them; one step, all states: {:?} without and with leak",
+            numbered(&self.refused_walks), self.crowded, self.drawn_runs, self.leaks_shown, self.exact
         );
-        shown
-            + &format!(
-                "\naccepted programs run whole: {}, rows of equal traces: {}, source steps followed: {} ({} with a public bit)",
-                self.whole_runs, self.equal_rows, self.followed_steps, self.public_bits
-            )
+        shown += &format!(
+            "\naccepted programs run whole: {:?} by layout, rows of equal traces: {}, source steps followed: {} ({} with a public bit)",
+            self.whole_runs, self.equal_rows, self.followed_steps, self.public_bits
+        );
+        shown + &self.show_layouts()
     }
+
+    fn show_layouts(&self) -> String {
+        let mut shown = format!("\nwalks on images, balanced and spent, by layout: {:?}", self.image_walks);
+        for (at, entry) in WITH_LAYOUT.iter().enumerate() {
+            shown += &format!(
+                "\n{entry:?}: {:?} successes by layout; 23 for the position, the spacing, both: {:?}, before others: {}",
+                self.in_layout[at], self.outside[at], numbered(&self.before[at])
+            );
+        }
+        shown + &format!("\nimages refused that another layout takes: {}", self.other_images)
+    }
+}
+
+/// Counts by their numbers, where there are any.
+fn numbered(counts: &[u64]) -> String {
+    let some: Vec<String> = counts
+        .iter()
+        .enumerate()
+        .filter(|(_, &count)| count > 0)
+        .map(|(number, count)| format!("{number}: {count}"))
+        .collect();
+    some.join(", ")
 }
 
 /// The state of a comparison; an error is the report of a difference.
@@ -205,17 +290,16 @@ impl Comparison<'_> {
     fn call(
         &mut self,
         entry: Entry,
+        small: Small,
         (bytes, numbers): (&[u8], &[u16]),
-        (start, budget): (u16, u16),
         (lent_bytes, lent_numbers): (&[u8], &[u16]),
     ) -> Result<(Answer, Call), String> {
         let rng = &mut self.rng;
         let mut got = Call {
             entry,
+            small,
             bytes: Lent::new(rng, bytes, Random::byte),
             numbers: Lent::new(rng, numbers, Random::number),
-            start,
-            budget,
             lent_bytes: Lent::new(rng, lent_bytes, Random::byte),
             lent_numbers: Lent::new(rng, lent_numbers, Random::number),
         };
@@ -233,25 +317,7 @@ impl Comparison<'_> {
             report += &got.lent_numbers.differs(&wanted.lent_numbers, "lent numbers");
             return Err(report + &before.show());
         }
-        let counts = &mut self.counts;
-        counts.calls += 1;
-        counts.entries[entry as usize] += 1;
-        match answer {
-            Answer::Counted(_) => (),
-            Answer::Refused { number, .. } => {
-                counts.refusals[number as usize] += 1;
-                counts.refused_walks[number as usize] += (entry == Entry::Judge) as u64;
-            }
-            Answer::Halted { .. } => counts.halted += 1,
-            Answer::Spent { .. } if entry == Entry::Judge => counts.spent_walks += 1,
-            Answer::Spent { .. } => counts.spent += 1,
-            Answer::Balanced { .. } => counts.balanced += 1,
-            Answer::Leak { .. } => counts.leaks += 1,
-        }
-        match entry {
-            Entry::Judge => counts.steps_on_sets += steps(answer) as u64,
-            _ => counts.steps += steps(answer) as u64,
-        }
+        self.counts.add(&before, answer);
         Ok((answer, got))
     }
 
@@ -265,29 +331,37 @@ impl Comparison<'_> {
 
     fn read(&mut self, text: &[u8], size: usize) -> Result<(Answer, Vec<u16>), String> {
         let store = self.some_numbers(size);
-        let (answer, call) = self.call(Entry::Read, (text, &[]), (0, 0), (&[], &store))?;
+        let (answer, call) = self.call(Entry::Read, NONE, (text, &[]), (&[], &store))?;
         Ok((answer, call.lent_numbers.part().to_vec()))
     }
 
     fn write(&mut self, program: &[u16], size: usize) -> Result<(Answer, Vec<u8>), String> {
         let out = self.some_bytes(size);
-        let (answer, call) = self.call(Entry::Write, (&[], program), (0, 0), (&out, &[]))?;
+        let (answer, call) = self.call(Entry::Write, NONE, (&[], program), (&out, &[]))?;
         Ok((answer, call.lent_bytes.part().to_vec()))
     }
 
     fn check(&mut self, program: &[u16]) -> Result<Answer, String> {
-        Ok(self.call(Entry::Check, (&[], program), (0, 0), (&[], &[]))?.0)
+        Ok(self.call(Entry::Check, NONE, (&[], program), (&[], &[]))?.0)
     }
 
-    fn expand(&mut self, program: &[u16], size: usize) -> Result<(Answer, Vec<u16>), String> {
+    fn expand(&mut self, layout: Layout, program: &[u16], size: usize) -> Result<(Answer, Vec<u16>), String> {
         let out = self.some_numbers(size);
-        let (answer, call) = self.call(Entry::Expand, (&[], program), (0, 0), (&[], &out))?;
+        let small = Small { layout, ..NONE };
+        let (answer, call) = self.call(Entry::Expand, small, (&[], program), (&[], &out))?;
         Ok((answer, call.lent_numbers.part().to_vec()))
     }
 
-    fn image(&mut self, entry: Entry, state: &[u8], size: usize) -> Result<(Answer, Vec<u8>), String> {
+    fn image(
+        &mut self,
+        entry: Entry,
+        layout: Layout,
+        state: &[u8],
+        size: usize,
+    ) -> Result<(Answer, Vec<u8>), String> {
         let lent = self.some_bytes(size);
-        let (answer, call) = self.call(entry, (state, &[]), (0, 0), (&lent, &[]))?;
+        let small = Small { layout, ..NONE };
+        let (answer, call) = self.call(entry, small, (state, &[]), (&lent, &[]))?;
         Ok((answer, call.lent_bytes.part().to_vec()))
     }
 
@@ -299,13 +373,14 @@ impl Comparison<'_> {
         size: usize,
     ) -> Result<(Answer, Vec<u8>, Vec<u16>), String> {
         let trace = self.some_numbers(size);
-        let numbers = (start as u16, budget as u16);
-        let (answer, call) = self.call(Entry::Run, (&[], program), numbers, (state, &trace))?;
+        let small = Small { start: start as u16, budget: budget as u16, ..NONE };
+        let (answer, call) = self.call(Entry::Run, small, (&[], program), (state, &trace))?;
         Ok((answer, call.lent_bytes.part().to_vec(), call.lent_numbers.part().to_vec()))
     }
 
     fn judge(&mut self, program: &[u16], sets: &[u8], budget: usize) -> Result<Answer, String> {
-        Ok(self.call(Entry::Judge, (sets, program), (0, budget as u16), (&[], &[]))?.0)
+        let small = Small { budget: budget as u16, ..NONE };
+        Ok(self.call(Entry::Judge, small, (sets, program), (&[], &[]))?.0)
     }
 
     // ------------------------------------------------------------ cases
@@ -314,15 +389,15 @@ impl Comparison<'_> {
         if case % 25 == 0 {
             return self.long(case / 25);
         }
-        match self.rng.below(13) {
+        match self.rng.below(14) {
             0..=3 => {
                 let lines = make::accepted_program(&mut self.rng);
                 self.whole_way(&lines)
             }
             4..=6 => self.texts(),
-            7 => self.states(),
-            8..=9 => self.stored_programs(),
-            10 => self.first_step(),
+            7..=8 => self.states(),
+            9..=10 => self.stored_programs(),
+            11 => self.first_step(),
             _ => self.walks(),
         }
     }
@@ -362,24 +437,39 @@ impl Comparison<'_> {
         let size_of_text = make::text(&lines).len();
         let room = size(&mut self.rng, size_of_text);
         self.write(&program, room)?;
-        let length: usize = lines.iter().map(make::part_length).sum();
-        let room = size(&mut self.rng, SIX * length);
-        self.expand(&program, room)?;
+        self.expand_about(&lines, &program)?;
+        self.run_about(&program)
+    }
 
+    /// Expands a program, into about the room that these lines need; every other time outside the six layouts too.
+    fn expand_about(&mut self, lines: &[Line], program: &[u16]) -> Result<(), String> {
+        let layout = make::layout(&mut self.rng);
+        let length: usize = lines.iter().map(|line| make::part_length(layout, line)).sum();
+        let room = size(&mut self.rng, SIX * length);
+        self.expand(layout, program, room)?;
+        if self.rng.one_in(2) {
+            let outside = make::layout_outside(&mut self.rng);
+            self.expand(outside, program, room)?;
+        }
+        Ok(())
+    }
+
+    /// Runs a program from a state that mostly is one, with about the room that the budget needs.
+    fn run_about(&mut self, program: &[u16]) -> Result<(), String> {
         let mut state = make::any_state(&mut self.rng);
         if self.rng.one_in(8) {
             let size = make::wrong_length(&mut self.rng);
             state.resize(size, 7);
         }
         let budget = self.budget();
-        let start = self.start(lines.len());
+        let start = self.start(program.len() / SIX);
         let room = match self.rng.below(8) {
             0 => self.rng.below(ROW * budget + 1),
             1 => (ROW * budget).saturating_sub(1),
             2 => ROW * budget + self.rng.below(20),
             _ => ROW * budget,
         };
-        self.run(&program, (start, budget), &state, room)?;
+        self.run(program, (start, budget), &state, room)?;
         Ok(())
     }
 
@@ -403,20 +493,26 @@ impl Comparison<'_> {
 
     /// States to images and back.
     fn states(&mut self) -> Result<(), String> {
+        let layout = make::layout(&mut self.rng);
         let mut bits = make::bit_state(&mut self.rng);
-        let mut image = make::image(&mut self.rng);
+        let mut image = make::image(&mut self.rng, layout);
         if self.rng.below(3) > 0 {
-            make::damage_state(&mut self.rng, &mut bits);
-            make::damage_state(&mut self.rng, &mut image);
+            make::damage_state(&mut self.rng, layout, &mut bits);
+            make::damage_state(&mut self.rng, layout, &mut image);
         }
         let wrong = make::wrong_length(&mut self.rng);
         let size = self.rng.pick(&[STATE, STATE, STATE, STATE, wrong]);
-        self.image(Entry::ToImage, &bits, size)?;
-        self.image(Entry::FromImage, &image, size)?;
+        self.image(Entry::ToImage, layout, &bits, size)?;
+        self.image(Entry::FromImage, layout, &image, size)?;
         // Each the other way too, where it mostly does not belong.
         if self.rng.one_in(4) {
-            self.image(Entry::ToImage, &image, size)?;
-            self.image(Entry::FromImage, &bits, size)?;
+            self.image(Entry::ToImage, layout, &image, size)?;
+            self.image(Entry::FromImage, layout, &bits, size)?;
+        }
+        if self.rng.one_in(2) {
+            let outside = make::layout_outside(&mut self.rng);
+            self.image(Entry::ToImage, outside, &bits, size)?;
+            self.image(Entry::FromImage, outside, &image, size)?;
         }
         Ok(())
     }
@@ -476,16 +572,6 @@ impl Comparison<'_> {
         Ok(())
     }
 
-    /// The verdict on an expansion with the images that have the public places of this one.
-    fn judge_images(&mut self, expansion: &[u16], image: &[u8]) -> Result<Answer, String> {
-        let sets = make::image_sets(&mut self.rng, image);
-        let bytes = make::set_bytes(&mut self.rng, &sets);
-        let budget = self.rng.below(100);
-        let answer = self.judge(expansion, &bytes, budget)?;
-        self.verdict_holds(expansion, &sets, budget, answer)?;
-        Ok(answer)
-    }
-
     /// Runs from states drawn out of the sets end as the walk did, with equal traces; if
     /// it found a leak, as far as that, and mostly two of them differ there.
     fn verdict_holds(
@@ -524,153 +610,231 @@ impl Comparison<'_> {
         Ok(())
     }
 
+    // ------------------------------------------------------------ long ones
+
     /// The sizes where 7 and 9 begin, and the longest runs.
     fn long(&mut self, which: u64) -> Result<(), String> {
         let near = self.rng.pick(&[0, 1, 2, 2, 2]);
         match which % 5 {
-            0 => {
-                let lines = make::long_program(&mut self.rng, MOST_LINES - 1 + near, false);
-                let mut text = make::text(&lines);
-                if self.rng.one_in(4) {
-                    make::damage_text(&mut self.rng, &mut text);
-                }
-                let most = MOST_LINES;
-                let room = SIX * self.rng.pick(&[most - 1, most, most, most, most + 1, most + 16]);
-                self.read(&text, room)?;
-            }
-            1 => {
-                let count = MOST_LINES - 1 + near;
-                let mut program = make::stored(&make::long_program(&mut self.rng, count, false));
-                if self.rng.one_in(4) {
-                    make::damage_numbers(&mut self.rng, &mut program);
-                }
-                let state = make::any_state(&mut self.rng);
-                let start = self.start(count);
-                match self.rng.below(6) {
-                    0 => drop(self.write(&program, MOST_BYTES)?),
-                    1 => drop(self.check(&program)?),
-                    2 => drop(self.expand(&program, SIX * MOST_LINES)?),
-                    3 => drop(self.run(&program, (start, 300), &state, ROW * 300)?),
-                    _ => {
-                        let sets: Vec<Vec<u8>> = state.iter().map(|&value| vec![value]).collect();
-                        let mut bytes = make::set_bytes(&mut self.rng, &sets);
-                        if self.rng.one_in(4) {
-                            make::damage_sets(&mut self.rng, &mut bytes);
-                        }
-                        self.judge(&program, &bytes, 300)?;
-                    }
-                }
-            }
-            2 => {
-                let mut program =
-                    make::stored(&make::long_program(&mut self.rng, MOST_CHECKED - 1 + near, true));
-                if self.rng.one_in(4) {
-                    make::damage_numbers(&mut self.rng, &mut program);
-                }
-                self.check(&program)?;
-                let enough = LONGEST * MOST_CHECKED;
-                let room = SIX * self.rng.pick(&[enough, enough, MOST_CHECKED, 6_000, MOST_LINES]);
-                self.expand(&program, room)?;
-            }
+            0 => self.long_text(MOST_LINES - 1 + near),
+            1 => self.long_stored(MOST_LINES - 1 + near),
+            2 => self.long_accepted(MOST_CHECKED - 1 + near),
             3 => {
                 let count = self.rng.pick(&[MOST_CHECKED, 700, 300]);
                 let lines = make::long_program(&mut self.rng, count, true);
-                self.whole_way(&lines)?;
+                self.whole_way(&lines)
             }
+            _ => self.long_run(),
+        }
+    }
+
+    fn long_text(&mut self, count: usize) -> Result<(), String> {
+        let lines = make::long_program(&mut self.rng, count, false);
+        let mut text = make::text(&lines);
+        if self.rng.one_in(4) {
+            make::damage_text(&mut self.rng, &mut text);
+        }
+        let most = MOST_LINES;
+        let room = SIX * self.rng.pick(&[most - 1, most, most, most, most + 1, most + 16]);
+        self.read(&text, room)?;
+        Ok(())
+    }
+
+    /// Any correct lines, to one of those that take a stored program, and outside the six layouts.
+    fn long_stored(&mut self, count: usize) -> Result<(), String> {
+        let mut program = make::stored(&make::long_program(&mut self.rng, count, false));
+        if self.rng.one_in(4) {
+            make::damage_numbers(&mut self.rng, &mut program);
+        }
+        let outside = make::layout_outside(&mut self.rng);
+        self.expand(outside, &program, SIX * MOST_CHECKED)?;
+        let layout = make::layout(&mut self.rng);
+        let state = make::any_state(&mut self.rng);
+        let start = self.start(count);
+        match self.rng.below(6) {
+            0 => drop(self.write(&program, MOST_BYTES)?),
+            1 => drop(self.check(&program)?),
+            2 => drop(self.expand(layout, &program, SIX * MOST_LINES)?),
+            3 => drop(self.run(&program, (start, 300), &state, ROW * 300)?),
             _ => {
-                // A run that mostly does not end.
-                let mut lines = make::accepted_program(&mut self.rng);
-                lines.push(make::jump(0));
-                let state = make::any_state(&mut self.rng);
-                let budget = self.rng.pick(&[65_535, 65_535, 30_000]);
-                self.run(&make::stored(&lines), (0, budget), &state, ROW * budget)?;
+                let sets: Vec<Vec<u8>> = state.iter().map(|&value| vec![value]).collect();
+                let mut bytes = make::set_bytes(&mut self.rng, &sets);
+                if self.rng.one_in(4) {
+                    make::damage_sets(&mut self.rng, &mut bytes);
+                }
+                self.judge(&program, &bytes, 300)?;
             }
         }
         Ok(())
     }
 
-    /// An accepted program the whole way: text, lines, expansion, images, runs.
-    fn whole_way(&mut self, lines: &[Line]) -> Result<(), String> {
-        let text = make::text(lines);
-        let show = String::from_utf8_lossy(&text).into_owned();
-        let must = |holds: bool, what: &str| {
-            if holds {
-                Ok(())
-            } else {
-                Err(format!("{what}\nprogram:\n{show:.20000}"))
-            }
-        };
-
-        // Text to lines to text.
-        let (answer, program) = self.read(&text, SIX * lines.len())?;
-        must(answer == Answer::Counted(lines.len() as u32), "a right text is not read")?;
-        let (answer, again) = self.write(&program, text.len())?;
-        must(answer == Answer::Counted(text.len() as u32) && again == text, "the text does not come back")?;
-        let (answer, _) = self.write(&program, text.len() - lines.len().min(1))?;
-        must(lines.is_empty() || answer == Answer::Refused { number: 17, line: 0 }, "17 is missing")?;
-
-        // The expansion, exact room and too little.
-        must(self.check(&program)? == Answer::Counted(lines.len() as u32), "not accepted")?;
-        let starts = paper::starts(lines);
-        let end = starts[lines.len()];
-        let (answer, expansion) = self.expand(&program, SIX * end)?;
-        must(answer == Answer::Counted(end as u32), "not expanded")?;
-        if end > 0 {
-            self.expand(&program, SIX * end - 1)?;
+    /// Lines that the mark check takes, if they are not too many.
+    fn long_accepted(&mut self, count: usize) -> Result<(), String> {
+        let mut program = make::stored(&make::long_program(&mut self.rng, count, true));
+        if self.rng.one_in(4) {
+            make::damage_numbers(&mut self.rng, &mut program);
         }
+        self.check(&program)?;
+        let enough = LONGEST * MOST_CHECKED;
+        let room = SIX * self.rng.pick(&[enough, enough, MOST_CHECKED, 6_000, MOST_LINES]);
+        let layouts = [make::layout(&mut self.rng), make::layout_outside(&mut self.rng)];
+        for layout in layouts {
+            self.expand(layout, &program, room)?;
+        }
+        Ok(())
+    }
 
-        // Two bit states alike in public places, and their images.
+    /// A run that mostly does not end.
+    fn long_run(&mut self) -> Result<(), String> {
+        let mut lines = make::accepted_program(&mut self.rng);
+        lines.push(make::jump(0));
+        let state = make::any_state(&mut self.rng);
+        let budget = self.rng.pick(&[65_535, 65_535, 30_000]);
+        self.run(&make::stored(&lines), (0, budget), &state, ROW * budget)?;
+        Ok(())
+    }
+
+    // ------------------------------------------------------------ the whole way
+
+    /// An accepted program the whole way in one of the layouts: text, lines, expansion, images, runs.
+    fn whole_way(&mut self, lines: &[Line]) -> Result<(), String> {
+        let layout = make::layout(&mut self.rng);
+        let starts = paper::starts(layout, lines);
+        let mut way = Way { layout, lines, starts, program: vec![], expansion: vec![] };
+        way.program = self.there_and_back(&way)?;
+        way.expansion = self.expanded(&way)?;
+        let line = self.start(lines.len());
+        let (bits, image) = self.equal_traces(&way, line)?;
+        self.all_images(&way, &image)?;
+        self.follows(&way, line, &bits, &image)?;
+        self.counts.whole_runs[which(layout)] += 1;
+        Ok(())
+    }
+
+    /// Text to lines to text; gives the lines.
+    fn there_and_back(&mut self, way: &Way) -> Result<Vec<u16>, String> {
+        let lines = way.lines;
+        let text = make::text(lines);
+        let (answer, program) = self.read(&text, SIX * lines.len())?;
+        way.must(answer == Answer::Counted(lines.len() as u32), "a right text is not read")?;
+        let (answer, again) = self.write(&program, text.len())?;
+        let right = answer == Answer::Counted(text.len() as u32) && again == text;
+        way.must(right, "the text does not come back")?;
+        let (answer, _) = self.write(&program, text.len() - lines.len().min(1))?;
+        way.must(lines.is_empty() || answer == Answer::Refused { number: 17, line: 0 }, "17 is missing")?;
+        Ok(program)
+    }
+
+    /// The expansion: exact room and too little, now and then outside the six layouts too.
+    fn expanded(&mut self, way: &Way) -> Result<Vec<u16>, String> {
+        let count = Answer::Counted(way.lines.len() as u32);
+        way.must(self.check(&way.program)? == count, "not accepted")?;
+        let end = way.start(way.lines.len());
+        let (answer, expansion) = self.expand(way.layout, &way.program, SIX * end)?;
+        way.must(answer == Answer::Counted(end as u32), "not expanded")?;
+        if end > 0 {
+            self.expand(way.layout, &way.program, SIX * end - 1)?;
+        }
+        if self.rng.one_in(8) {
+            let outside = make::layout_outside(&mut self.rng);
+            let room = size(&mut self.rng, SIX * end);
+            self.expand(outside, &way.program, room)?;
+        }
+        Ok(expansion)
+    }
+
+    /// Equal traces from the images of two bit states alike in public places, from one source line with
+    /// one budget. Gives the first of the bit states and its image.
+    fn equal_traces(&mut self, way: &Way, line: usize) -> Result<(Vec<u8>, Vec<u8>), String> {
         let one = make::bit_state(&mut self.rng);
         let two = make::same_public(&mut self.rng, &one);
-        let (_, image_one) = self.image(Entry::ToImage, &one, STATE)?;
-        let (_, image_two) = self.image(Entry::ToImage, &two, STATE)?;
-        let (_, back) = self.image(Entry::FromImage, &image_one, STATE)?;
-        must(back == one, "the bit state does not come back")?;
+        let (_, image_one) = self.image(Entry::ToImage, way.layout, &one, STATE)?;
+        let (_, image_two) = self.image(Entry::ToImage, way.layout, &two, STATE)?;
+        let (_, back) = self.image(Entry::FromImage, way.layout, &image_one, STATE)?;
+        way.must(back == one, "the bit state does not come back")?;
 
-        // Equal traces from one source line with one budget.
-        let line = self.start(lines.len());
-        let start = starts[line.min(lines.len())];
         let budget = match self.rng.below(50) {
             0 => 20_000,
             1..=4 => 0,
             _ => self.rng.below(600),
         };
-        let (answer_one, _, trace_one) = self.run(&expansion, (start, budget), &image_one, ROW * budget)?;
-        let (answer_two, _, trace_two) = self.run(&expansion, (start, budget), &image_two, ROW * budget)?;
-        must(answer_one == answer_two, "the runs end differently")?;
+        let begin = (way.start(line), budget);
+        let (answer_one, _, trace_one) = self.run(&way.expansion, begin, &image_one, ROW * budget)?;
+        let (answer_two, _, trace_two) = self.run(&way.expansion, begin, &image_two, ROW * budget)?;
+        way.must(answer_one == answer_two, "the runs end differently")?;
         let steps = steps(answer_one);
-        must(trace_one[..ROW * steps] == trace_two[..ROW * steps], "the traces differ")?;
-
-        // All images with these public places at once.
-        let answer = self.judge_images(&expansion, &image_one)?;
-        let right = matches!(answer, Answer::Balanced { .. } | Answer::Spent { .. });
-        must(right, "the expansion is neither balanced nor spent")?;
-
-        // The expansion follows the source: as many steps as the parts of the lines done have.
-        let budget = self.rng.below(200);
-        let (answer, source, trace) = self.run(&program, (line, budget), &one, ROW * budget)?;
-        let done = self::steps(answer);
-        let part = |row: &[u16]| starts[row[0] as usize + 1] - starts[row[0] as usize];
-        let rows = trace[..ROW * done].chunks_exact(ROW);
-        let public_bits = rows.clone().filter(|row| make::has_public_bit(&lines[row[0] as usize])).count();
-        let length: usize = rows.map(part).sum();
-        must(done <= length && length <= LONGEST * done, "the expansion takes too few or too many steps")?;
-        let stands = starts[counter(answer).min(lines.len())];
-        let (answer, mut state, _) = self.run(&expansion, (start, length), &image_one, ROW * length)?;
-        must(self::steps(answer) == length && counter(answer) == stands, "the expansion stands elsewhere")?;
-        let (_, decoded) = self.image(Entry::FromImage, &state, STATE)?;
-        must(decoded == source, "the expansion's state does not decode to the source's")?;
-        let (_, wanted) = self.image(Entry::ToImage, &source, STATE)?;
-        state[1..=3].fill(0);
-        must(state == wanted, "the expansion's state is not the image of the source's")?;
-
-        let sensitive = (0..STATE).filter(|&place| paper::kind_of_place(place) == Kind::Sensitive);
-        must(sensitive.into_iter().all(|place| source[place] <= 1), "the source's state is no bit state")?;
-        self.counts.whole_runs += 1;
+        way.must(trace_one[..ROW * steps] == trace_two[..ROW * steps], "the traces differ")?;
         self.counts.equal_rows += steps as u64;
+        Ok((one, image_one))
+    }
+
+    /// The verdict on all images at once that have the public places of this one.
+    fn all_images(&mut self, way: &Way, image: &[u8]) -> Result<(), String> {
+        let sets = make::image_sets(&mut self.rng, way.layout, image);
+        let bytes = make::set_bytes(&mut self.rng, &sets);
+        let budget = self.rng.below(100);
+        let answer = self.judge(&way.expansion, &bytes, budget)?;
+        self.verdict_holds(&way.expansion, &sets, budget, answer)?;
+        let balanced = matches!(answer, Answer::Balanced { .. });
+        let spent = matches!(answer, Answer::Spent { .. });
+        way.must(balanced || spent, "the expansion is neither balanced nor spent")?;
+        self.counts.image_walks[which(way.layout)][spent as usize] += 1;
+        Ok(())
+    }
+
+    /// The expansion follows the source: as many steps as the parts of the lines done have.
+    fn follows(&mut self, way: &Way, line: usize, bits: &[u8], image: &[u8]) -> Result<(), String> {
+        let budget = self.rng.below(200);
+        let (answer, source, trace) = self.run(&way.program, (line, budget), bits, ROW * budget)?;
+        let done = steps(answer);
+        let rows = trace[..ROW * done].chunks_exact(ROW).map(|row| row[0] as usize);
+        let public_bits = rows.clone().filter(|&line| make::has_public_bit(&way.lines[line])).count();
+        let length: usize = rows.map(|line| way.start(line + 1) - way.start(line)).sum();
+        let right = done <= length && length <= LONGEST * done;
+        way.must(right, "the expansion takes too few or too many steps")?;
+
+        let stands = way.start(counter(answer));
+        let begin = (way.start(line), length);
+        let (answer, mut state, _) = self.run(&way.expansion, begin, image, ROW * length)?;
+        let right = steps(answer) == length && counter(answer) == stands;
+        way.must(right, "the expansion stands elsewhere")?;
+        let (_, decoded) = self.image(Entry::FromImage, way.layout, &state, STATE)?;
+        way.must(decoded == source, "the expansion's state does not decode to the source's")?;
+        let (_, wanted) = self.image(Entry::ToImage, way.layout, &source, STATE)?;
+        state[1..=3].fill(0);
+        way.must(state == wanted, "the expansion's state is not the image of the source's")?;
+
+        let mut sensitive = (0..STATE).filter(|&place| paper::kind_of_place(place) == Kind::Sensitive);
+        way.must(sensitive.all(|place| source[place] <= 1), "the source's state is no bit state")?;
         self.counts.followed_steps += done as u64;
         self.counts.public_bits += public_bits as u64;
         Ok(())
+    }
+}
+
+/// An accepted program on its whole way.
+struct Way<'a> {
+    layout: Layout,
+    lines: &'a [Line],
+    /// Where each line's part of the expansion starts, and where the last one ends.
+    starts: Vec<usize>,
+    program: Vec<u16>,
+    expansion: Vec<u16>,
+}
+
+impl Way<'_> {
+    /// Where the expansion starts for a source line, at its end for one past the line count.
+    fn start(&self, line: usize) -> usize {
+        self.starts[line.min(self.lines.len())]
+    }
+
+    /// A report with the program unless this holds.
+    fn must(&self, holds: bool, what: &str) -> Result<(), String> {
+        if holds {
+            return Ok(());
+        }
+        let text = String::from_utf8_lossy(&make::text(self.lines)).into_owned();
+        Err(format!("{what}\n{:?}, program:\n{text:.20000}", self.layout))
     }
 }
 

@@ -1,14 +1,35 @@
 //! The static library: its exported functions, and safe functions over them.
 
-use crate::answer::{Answer, Dualrail};
+use crate::answer::{Answer, Dualrail, Layout};
 
 extern "C" {
     fn dualrail_read(text: *const u8, text_length: usize, store: *mut u16, store_length: usize) -> u64;
     fn dualrail_write(program: *const u16, program_length: usize, out: *mut u8, out_length: usize) -> u64;
     fn dualrail_check(program: *const u16, program_length: usize) -> u64;
-    fn dualrail_expand(program: *const u16, program_length: usize, out: *mut u16, out_length: usize) -> u64;
-    fn dualrail_to_image(bits: *const u8, bits_length: usize, image: *mut u8, image_length: usize) -> u64;
-    fn dualrail_from_image(image: *const u8, image_length: usize, bits: *mut u8, bits_length: usize) -> u64;
+    fn dualrail_expand(
+        position: u8,
+        spacing: u8,
+        program: *const u16,
+        program_length: usize,
+        out: *mut u16,
+        out_length: usize,
+    ) -> u64;
+    fn dualrail_to_image(
+        position: u8,
+        spacing: u8,
+        bits: *const u8,
+        bits_length: usize,
+        image: *mut u8,
+        image_length: usize,
+    ) -> u64;
+    fn dualrail_from_image(
+        position: u8,
+        spacing: u8,
+        image: *const u8,
+        image_length: usize,
+        bits: *mut u8,
+        bits_length: usize,
+    ) -> u64;
     fn dualrail_run(
         program: *const u16,
         program_length: usize,
@@ -46,21 +67,21 @@ pub fn check(program: &[u16]) -> Answer {
     Answer::from_count(unsafe { dualrail_check(program.as_ptr(), program.len()) })
 }
 
-pub fn expand(program: &[u16], out: &mut [u16]) -> Answer {
+pub fn expand(Layout { position, spacing }: Layout, program: &[u16], out: &mut [u16]) -> Answer {
     Answer::from_count(unsafe {
-        dualrail_expand(program.as_ptr(), program.len(), out.as_mut_ptr(), out.len())
+        dualrail_expand(position, spacing, program.as_ptr(), program.len(), out.as_mut_ptr(), out.len())
     })
 }
 
-pub fn to_image(bits: &[u8], image: &mut [u8]) -> Answer {
+pub fn to_image(Layout { position, spacing }: Layout, bits: &[u8], image: &mut [u8]) -> Answer {
     Answer::from_count(unsafe {
-        dualrail_to_image(bits.as_ptr(), bits.len(), image.as_mut_ptr(), image.len())
+        dualrail_to_image(position, spacing, bits.as_ptr(), bits.len(), image.as_mut_ptr(), image.len())
     })
 }
 
-pub fn from_image(image: &[u8], bits: &mut [u8]) -> Answer {
+pub fn from_image(Layout { position, spacing }: Layout, image: &[u8], bits: &mut [u8]) -> Answer {
     Answer::from_count(unsafe {
-        dualrail_from_image(image.as_ptr(), image.len(), bits.as_mut_ptr(), bits.len())
+        dualrail_from_image(position, spacing, image.as_ptr(), image.len(), bits.as_mut_ptr(), bits.len())
     })
 }
 
@@ -98,14 +119,14 @@ impl Dualrail for Library {
     fn check(&self, program: &[u16]) -> Answer {
         check(program)
     }
-    fn expand(&self, program: &[u16], out: &mut [u16]) -> Answer {
-        expand(program, out)
+    fn expand(&self, layout: Layout, program: &[u16], out: &mut [u16]) -> Answer {
+        expand(layout, program, out)
     }
-    fn to_image(&self, bits: &[u8], image: &mut [u8]) -> Answer {
-        to_image(bits, image)
+    fn to_image(&self, layout: Layout, bits: &[u8], image: &mut [u8]) -> Answer {
+        to_image(layout, bits, image)
     }
-    fn from_image(&self, image: &[u8], bits: &mut [u8]) -> Answer {
-        from_image(image, bits)
+    fn from_image(&self, layout: Layout, image: &[u8], bits: &mut [u8]) -> Answer {
+        from_image(layout, image, bits)
     }
     fn run(&self, program: &[u16], start: u16, budget: u16, state: &mut [u8], trace: &mut [u16]) -> Answer {
         run(program, start, budget, state, trace)
@@ -131,10 +152,13 @@ mod tests {
             assert_eq!(dualrail_read(b"\n".as_ptr(), 1, odd, 0), refused(8));
             assert_eq!(dualrail_write(null(), 0, null_mut(), 0), 0);
             assert_eq!(dualrail_check(odd, 0), 0);
-            assert_eq!(dualrail_expand(null(), 0, odd, 0), 0);
-            assert_eq!(dualrail_to_image(null(), 0, null_mut(), 0), refused(18));
-            assert_eq!(dualrail_to_image(null(), 0, image.as_mut_ptr(), 544), refused(18));
-            assert_eq!(dualrail_from_image(null(), 0, null_mut(), 0), refused(18));
+            assert_eq!(dualrail_expand(2, 1, null(), 0, odd, 0), 0);
+            assert_eq!(dualrail_expand(3, 1, odd, 0, null_mut(), 0), refused(23));
+            assert_eq!(dualrail_to_image(0, 0, null(), 0, null_mut(), 0), refused(18));
+            assert_eq!(dualrail_to_image(0, 1, null(), 0, image.as_mut_ptr(), 544), refused(18));
+            assert_eq!(dualrail_to_image(0, 2, null(), 0, null_mut(), 0), refused(23));
+            assert_eq!(dualrail_from_image(1, 0, null(), 0, null_mut(), 0), refused(18));
+            assert_eq!(dualrail_from_image(255, 255, null(), 0, null_mut(), 0), refused(23));
             assert_eq!(dualrail_run(null(), 0, 5, 0, image.as_mut_ptr(), 544, odd, 0), 5 << 16);
             assert_eq!(dualrail_run(odd, 0, 0, 1, image.as_mut_ptr(), 544, null_mut(), 0), 20 << 48);
             assert_eq!(dualrail_run(null(), 0, 0, 0, null_mut(), 0, null_mut(), 0), 18 << 48);

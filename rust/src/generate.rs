@@ -1,11 +1,39 @@
-//! Random inputs: programs that are right or nearly so, texts, states, sets.
+//! Random inputs: layouts, programs that are right or nearly so, texts, states, sets.
 
+use crate::answer::Layout;
 use crate::paper::walk::{MOST_VALUES, SET};
 use crate::paper::{
-    self, code, is_public, kind_of_place, table_page, Kind, Line, Opcode, Operand, Operand::*, MOST_LINES,
-    OPCODES, SIX, STATE,
+    self, is_public, kind_of_place, table_page, Kind, Line, Opcode, Operand, Operand::*, MOST_LINES, OPCODES,
+    PAGE, PUBLIC_BIT, SIX, STATE,
 };
 use crate::random::Random;
+
+// ---------------------------------------------------------------- layouts
+
+/// One of the six layouts, each as often as the others.
+pub fn layout(rng: &mut Random) -> Layout {
+    rng.pick(&Layout::ALL)
+}
+
+/// One of the six, but not this one.
+fn other_layout(rng: &mut Random, layout: Layout) -> Layout {
+    let others: Vec<Layout> = Layout::ALL.into_iter().filter(|&other| other != layout).collect();
+    rng.pick(&others)
+}
+
+/// A layout outside the six, by its position, its spacing, or both: the first number that is too
+/// large, those that are right in their lowest bits, the largest, or any.
+pub fn layout_outside(rng: &mut Random) -> Layout {
+    let any = [rng.within(3, 255), rng.within(2, 255)].map(|number| number as u8);
+    let position = rng.pick(&[3, 3, 4, 5, 8, 128, 255, any[0]]);
+    let spacing = rng.pick(&[2, 2, 3, 4, 128, 255, any[1]]);
+    let right = layout(rng);
+    match rng.below(3) {
+        0 => Layout { position, ..right },
+        1 => Layout { spacing, ..right },
+        _ => Layout { position, spacing },
+    }
+}
 
 // ---------------------------------------------------------------- lines
 
@@ -144,12 +172,13 @@ pub fn has_public_bit(line: &Line) -> bool {
 }
 
 /// The length of a line's part of the expansion, were it accepted.
-pub fn part_length(line: &Line) -> usize {
+pub fn part_length(layout: Layout, line: &Line) -> usize {
     let public = [line.first, line.second].into_iter().flatten().filter(|&argument| is_public(argument));
     match line.opcode {
         _ if !line.marked => 1,
         Opcode::Not => 5 + 2 * public.count(),
         Opcode::Mov => 4 + 2 * public.count(),
+        _ if layout.is_spaced() => 12 + 2 * public.count(),
         _ => 13 + 2 * public.count(),
     }
 }
@@ -388,6 +417,9 @@ pub fn damage_text(rng: &mut Random, text: &mut Vec<u8>) {
 
 // ---------------------------------------------------------------- states
 
+/// Where a state has the codes of a public bit.
+const PUBLIC_BITS: usize = PAGE + PUBLIC_BIT as usize;
+
 /// A bit state.
 pub fn bit_state(rng: &mut Random) -> Vec<u8> {
     let small = rng.one_in(2);
@@ -414,17 +446,17 @@ pub fn same_public(rng: &mut Random, state: &[u8]) -> Vec<u8> {
     other
 }
 
-/// The image of a bit state, r1 to r3 being free.
-pub fn image(rng: &mut Random) -> Vec<u8> {
+/// The image of a bit state in a layout, r1 to r3 being free.
+pub fn image(rng: &mut Random, layout: Layout) -> Vec<u8> {
     let mut state = bit_state(rng);
     for (place, value) in state.iter_mut().enumerate() {
         if kind_of_place(place) == Kind::Sensitive {
-            *value = code(*value);
+            *value = layout.code(*value);
         } else if (1..=3).contains(&place) {
             *value = rng.byte();
         }
     }
-    state[32 + 256..].copy_from_slice(&table_page());
+    state[PAGE..].copy_from_slice(&table_page(layout));
     state
 }
 
@@ -432,34 +464,75 @@ pub fn image(rng: &mut Random) -> Vec<u8> {
 pub fn any_state(rng: &mut Random) -> Vec<u8> {
     match rng.below(3) {
         0 => bit_state(rng),
-        1 => image(rng),
+        1 => {
+            let layout = layout(rng);
+            image(rng, layout)
+        }
         _ => (0..STATE).map(|_| rng.byte()).collect(),
     }
 }
 
-/// Changes one place or two, or the length.
-pub fn damage_state(rng: &mut Random, state: &mut Vec<u8>) {
-    if rng.one_in(3) {
-        let size = wrong_length(rng);
-        state.resize(size, 0);
-        return;
+/// Changes one place or two of a bit state or an image, or the length, or mixes it with another layout's.
+pub fn damage_state(rng: &mut Random, layout: Layout, state: &mut Vec<u8>) {
+    match rng.below(24) {
+        0..=6 => {
+            let size = wrong_length(rng);
+            state.resize(size, 0);
+        }
+        7..=9 => {
+            // The codes of a public bit, as they were before request 03, exchanged, or alike.
+            let [zero, one] = [0, 1].map(|bit| layout.code(bit));
+            let both = rng.pick(&[[0, 0], [one, zero], [one, one], [zero, zero]]);
+            state[PUBLIC_BITS..=PUBLIC_BITS + 1].copy_from_slice(&both);
+        }
+        10..=14 => mix_layouts(rng, layout, state),
+        15..=16 => {
+            // Neither bit of a pair, both, or a bit that is not the layout's besides the code.
+            let besides = layout.code(rng.bit()) | 1 << rng.below(8);
+            state[secret(rng)] = rng.pick(&[0, layout.mask(), besides]);
+        }
+        _ => {
+            for _ in 0..rng.within(1, 2) {
+                let place = telling_place(rng, layout);
+                state[place] = match rng.below(3) {
+                    0 => rng.byte(),
+                    1 => rng.below(4) as u8,
+                    _ => rng.pick(&[layout.code(0), layout.code(1), layout.mask(), 0]),
+                };
+            }
+        }
     }
-    if rng.one_in(8) {
-        // The two cells that request 03 fills, as they were before it, exchanged, or alike.
-        let both = rng.pick(&[[0, 0], [1, 2], [1, 1], [2, 2]]);
-        state[32 + 496..=32 + 497].copy_from_slice(&both);
-        return;
+}
+
+/// What stands in a state, or all of it, as another layout has it.
+fn mix_layouts(rng: &mut Random, layout: Layout, state: &mut Vec<u8>) {
+    let other = other_layout(rng, layout);
+    let page = table_page(other);
+    match rng.below(5) {
+        0 | 1 => state[secret(rng)] = other.code(rng.bit()),
+        2 => state[PAGE..].copy_from_slice(&page),
+        3 => state[PUBLIC_BITS..=PUBLIC_BITS + 1].copy_from_slice(&page[PUBLIC_BITS - PAGE..][..2]),
+        _ => *state = image(rng, other),
     }
-    for _ in 0..rng.within(1, 2) {
-        let whole = rng.below(STATE);
-        let edges = [
-            0, 1, 2, 3, 4, 15, 16, 31, 32, 159, 160, 287, 288, 293, 335, 336, 527, 528, 529, 530, 543, whole,
-        ];
-        let place = rng.pick(&edges);
-        state[place] = match rng.below(3) {
-            0 => rng.byte(),
-            _ => rng.below(4) as u8,
-        };
+}
+
+/// A sensitive place of a state.
+fn secret(rng: &mut Random) -> usize {
+    let cell = rng.within(160, 287);
+    rng.pick(&[16, 31, 160, 287, cell])
+}
+
+/// A place where a state is likely to be wrong: the ends of each kind of place and of each table, the
+/// tables' entries, and the cells beside these.
+fn telling_place(rng: &mut Random, layout: Layout) -> usize {
+    let table = rng.within(0, 3) as u8;
+    let start = PAGE + layout.table(table) as usize;
+    let entry = PAGE + (layout.table(table % 3) + layout.index(rng.bit(), rng.bit())) as usize;
+    let any = rng.below(STATE);
+    match rng.below(4) {
+        0 => rng.pick(&[start - 1, start, start + 1, entry - 1, entry, entry, entry + 1]),
+        1 => rng.pick(&[PUBLIC_BITS - 1, PUBLIC_BITS, PUBLIC_BITS + 1, PUBLIC_BITS + 2, STATE - 1]),
+        _ => rng.pick(&[0, 1, 2, 3, 4, 15, 16, 31, 32, 159, 160, 287, 288, any]),
     }
 }
 
@@ -479,11 +552,12 @@ pub fn wrong_length(rng: &mut Random) -> usize {
 pub fn walk(rng: &mut Random) -> (Vec<Line>, Vec<Vec<u8>>) {
     match rng.below(8) {
         0 | 1 => {
-            let mut lines = paper::expansion(&accepted_program(rng));
+            let layout = layout(rng);
+            let mut lines = paper::expansion(layout, &accepted_program(rng));
             patch(rng, &mut lines);
-            let mut image = image(rng);
+            let mut image = image(rng, layout);
             image[1..=3].fill(0);
-            (lines, image_sets(rng, &image))
+            (lines, image_sets(rng, layout, &image))
         }
         2 => crowded_walk(rng),
         3 => shifting_walk(rng),
@@ -661,12 +735,13 @@ fn near_program(rng: &mut Random) -> Vec<Line> {
 }
 
 /// The sets of all images with the public places of this one, now and then of fewer.
-pub fn image_sets(rng: &mut Random, image: &[u8]) -> Vec<Vec<u8>> {
+pub fn image_sets(rng: &mut Random, layout: Layout, image: &[u8]) -> Vec<Vec<u8>> {
+    let [zero, one] = [0, 1].map(|bit| layout.code(bit));
     let fewer = rng.one_in(4);
     let mut sets: Vec<Vec<u8>> = vec![];
     for (place, &value) in image.iter().enumerate() {
         let both = kind_of_place(place) == Kind::Sensitive && !(fewer && rng.one_in(2));
-        sets.push(if both { rng.pick(&[[1, 2], [2, 1]]).to_vec() } else { vec![value] });
+        sets.push(if both { rng.pick(&[[zero, one], [one, zero]]).to_vec() } else { vec![value] });
     }
     sets
 }

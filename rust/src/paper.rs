@@ -2,12 +2,15 @@
 //! docs/STORED-LINES.md, which it asks for), for clarity and not for speed;
 //! the requests of document 02 likewise. The test compares the library with this.
 
-use crate::answer::{Answer, Dualrail};
+use crate::answer::{Answer, Dualrail, Layout};
 
+pub mod layout;
 pub mod walk;
 
 /// Bytes of a state: the registers, then the cells.
 pub const STATE: usize = 32 + 512;
+/// Where the table page begins in a state.
+pub const PAGE: usize = 32 + 256;
 /// Numbers of a stored line, and of a trace row.
 pub const SIX: usize = 6;
 pub const ROW: usize = 6;
@@ -418,109 +421,115 @@ fn mark_check(lines: &[Line]) -> Result<(), Answer> {
 
 // ---------------------------------------------------------------- expansion
 
-/// Bit 1 is 01, bit 0 is 10.
-pub fn code(bit: u8) -> u8 {
-    2 - bit
+/// Where the table page has the codes of a public bit, request 03: cells 496 and 497.
+pub const PUBLIC_BIT: u8 = 240;
+
+const R0: Operand = Register(0);
+const R1: Operand = Register(1);
+const R2: Operand = Register(2);
+const R3: Operand = Register(3);
+
+/// A new line: it carries the mark of the old one, and has no target.
+fn new_line(opcode: Opcode, destination: Operand, first: Operand, second: Option<Operand>) -> Line {
+    Line { marked: true, opcode, destination: Some(destination), first: Some(first), second, target: None }
 }
 
-/// Where the table page has the codes of a public bit, request 03: cells 496 and 497.
-const PUBLIC_BIT: u8 = 240;
+fn mov(destination: Operand, first: Operand) -> Line {
+    new_line(Mov, destination, first, None)
+}
+
+/// A register with a second argument, into the same register.
+fn with(opcode: Opcode, register: Operand, second: Operand) -> Line {
+    new_line(opcode, register, register, Some(second))
+}
 
 /// An argument of a marked line, its literal coded.
-fn coded(operand: Option<Operand>) -> Option<Operand> {
-    match operand {
-        Some(Literal(bit)) => Some(Literal(code(bit))),
-        other => other,
+fn coded(layout: Layout, argument: Option<Operand>) -> Operand {
+    match argument.expect("an accepted marked line has it") {
+        Literal(bit) => Literal(layout.code(bit)),
+        place => place,
     }
+}
+
+/// The lines that load an argument into scratch register x. Request 03: a public place is no code;
+/// its lowest bit has one in cell 496 or 497.
+fn load(x: u8, argument: Operand) -> Vec<Line> {
+    let mut lines = vec![mov(Register(x), argument)];
+    if is_public(argument) {
+        lines.push(with(And, Register(x), Literal(1)));
+        lines.push(mov(Register(x), Table { base: x, offset: PUBLIC_BIT }));
+    }
+    lines
+}
+
+/// The macro of and, orr and xor, whose tables are numbers 0 to 2. Request 04: the mask and the table's
+/// start are the layout's, and so is how often the first code is shifted.
+fn table_macro(layout: Layout, table: u8, d: Operand, a: Operand, b: Operand) -> Vec<Line> {
+    let mask = Literal(layout.mask());
+    [
+        vec![mov(R1, R0)],
+        load(1, a),
+        vec![with(And, R1, mask)],
+        vec![with(Lsl, R1, Literal(1)); layout.shifts()],
+        vec![mov(R2, R0)],
+        load(2, b),
+        vec![
+            with(And, R2, mask),
+            with(Orr, R1, R2),
+            mov(R3, R0),
+            mov(R3, Table { base: 1, offset: layout.table(table) }),
+            mov(d, R0),
+            mov(d, R3),
+        ],
+    ]
+    .concat()
 }
 
 /// The part of the expansion that one accepted line becomes, targets unchanged.
-pub fn part(line: &Line) -> Vec<Line> {
+pub fn part(layout: Layout, line: &Line) -> Vec<Line> {
     if !line.marked {
         return vec![*line];
     }
-    let r = |n: u8| Some(Register(n));
-    let literal = |n: u8| Some(Literal(n));
-    let three = |opcode, destination, first, second| Line {
-        marked: true,
-        opcode,
-        destination,
-        first,
-        second,
-        target: None,
-    };
-    let mov = |destination, first| three(Mov, destination, first, None);
-    let (d, a, b) = (line.destination, coded(line.first), coded(line.second));
-    // Request 03: a public place is no code; its lowest bit has one in cell 496 or 497.
-    let load = |x: u8, argument: Option<Operand>| {
-        let mut lines = vec![mov(r(x), argument)];
-        if argument.is_some_and(is_public) {
-            lines.push(three(And, r(x), r(x), literal(1)));
-            lines.push(mov(r(x), Some(Table { base: x, offset: PUBLIC_BIT })));
-        }
-        lines
-    };
-    let table = |t: u8| {
-        [
-            vec![mov(r(1), r(0))],
-            load(1, a),
-            vec![
-                three(And, r(1), r(1), literal(3)),
-                three(Lsl, r(1), r(1), literal(1)),
-                three(Lsl, r(1), r(1), literal(1)),
-                mov(r(2), r(0)),
-            ],
-            load(2, b),
-            vec![
-                three(And, r(2), r(2), literal(3)),
-                three(Orr, r(1), r(1), r(2)),
-                mov(r(3), r(0)),
-                mov(r(3), Some(Table { base: 1, offset: t })),
-                mov(d, r(0)),
-                mov(d, r(3)),
-            ],
-        ]
-        .concat()
-    };
+    let d = line.destination.expect("an accepted marked line has it");
+    let a = coded(layout, line.first);
+    let table = |number: u8| table_macro(layout, number, d, a, coded(layout, line.second));
     match line.opcode {
         And => table(0),
-        Orr => table(16),
-        Xor => table(32),
-        Not => [
-            vec![mov(r(1), r(0))],
-            load(1, a),
-            vec![three(Xor, r(1), r(1), literal(3)), mov(d, r(0)), mov(d, r(1))],
-        ]
-        .concat(),
-        Mov => [vec![mov(r(3), r(0))], load(3, a), vec![mov(d, r(0)), mov(d, r(3))]].concat(),
+        Orr => table(1),
+        Xor => table(2),
+        Not => {
+            let flip = with(Xor, R1, Literal(layout.mask()));
+            [vec![mov(R1, R0)], load(1, a), vec![flip, mov(d, R0), mov(d, R1)]].concat()
+        }
+        Mov => [vec![mov(R3, R0)], load(3, a), vec![mov(d, R0), mov(d, R3)]].concat(),
         _ => unreachable!("an accepted marked line"),
     }
 }
 
 /// The start of each line's part; the last entry is the expansion's line count.
-pub fn starts(lines: &[Line]) -> Vec<usize> {
+pub fn starts(layout: Layout, lines: &[Line]) -> Vec<usize> {
     let mut starts = vec![0];
     for line in lines {
-        starts.push(starts[starts.len() - 1] + part(line).len());
+        starts.push(starts[starts.len() - 1] + part(layout, line).len());
     }
     starts
 }
 
 /// The expansion of an accepted program.
-pub fn expansion(lines: &[Line]) -> Vec<Line> {
-    let starts = starts(lines);
-    let mut joined: Vec<Line> = lines.iter().flat_map(part).collect();
+pub fn expansion(layout: Layout, lines: &[Line]) -> Vec<Line> {
+    let starts = starts(layout, lines);
+    let mut joined: Vec<Line> = lines.iter().flat_map(|line| part(layout, line)).collect();
     for line in &mut joined {
         line.target = line.target.map(|target| starts[target as usize] as u16);
     }
     joined
 }
 
-fn expand(lines: &[Line], out: &mut [u16]) -> Answer {
+fn expand(layout: Layout, lines: &[Line], out: &mut [u16]) -> Answer {
     if let Err(answer) = mark_check(lines) {
         return answer;
     }
-    let expansion = expansion(lines);
+    let expansion = expansion(layout, lines);
     if out.len() / SIX < expansion.len() {
         return refused(17, 0);
     }
@@ -532,26 +541,22 @@ fn expand(lines: &[Line], out: &mut [u16]) -> Answer {
 
 // ---------------------------------------------------------------- images
 
-/// The table page of an image.
-pub fn table_page() -> [u8; 256] {
+/// The table page of an image: the entries of three tables, and the codes of a public bit.
+pub fn table_page(layout: Layout) -> [u8; 256] {
     let mut page = [0; 256];
     let operations: [fn(u8, u8) -> u8; 3] = [|a, b| a & b, |a, b| a | b, |a, b| a ^ b];
-    for (which, operation) in operations.iter().enumerate() {
-        for a in 0..2 {
-            for b in 0..2 {
-                page[16 * which + (4 * code(a) + code(b)) as usize] = code(operation(a, b));
-            }
+    for (table, operation) in (0..).zip(operations) {
+        for (a, b) in [(0, 0), (0, 1), (1, 0), (1, 1)] {
+            page[(layout.table(table) + layout.index(a, b)) as usize] = layout.code(operation(a, b));
         }
     }
     for bit in 0..2 {
-        page[(PUBLIC_BIT + bit) as usize] = code(bit);
+        page[(PUBLIC_BIT + bit) as usize] = layout.code(bit);
     }
     page
 }
 
-const PAGE: usize = 32 + 256;
-
-fn to_image(bits: &[u8], image: &mut [u8]) -> Answer {
+fn to_image(layout: Layout, bits: &[u8], image: &mut [u8]) -> Answer {
     if bits.len() != STATE || image.len() != STATE {
         return refused(18, 0);
     }
@@ -565,11 +570,11 @@ fn to_image(bits: &[u8], image: &mut [u8]) -> Answer {
             return refused(19, 0);
         }
     }
-    let page = table_page();
+    let page = table_page(layout);
     for place in 0..STATE {
         image[place] = match kind_of_place(place) {
             Kind::Public => bits[place],
-            Kind::Sensitive => code(bits[place]),
+            Kind::Sensitive => layout.code(bits[place]),
             Kind::Other if place >= PAGE => page[place - PAGE],
             Kind::Other => 0,
         };
@@ -577,18 +582,19 @@ fn to_image(bits: &[u8], image: &mut [u8]) -> Answer {
     Answer::Counted(STATE as u32)
 }
 
-fn from_image(image: &[u8], bits: &mut [u8]) -> Answer {
+fn from_image(layout: Layout, image: &[u8], bits: &mut [u8]) -> Answer {
     if image.len() != STATE || bits.len() != STATE {
         return refused(18, 0);
     }
-    let uncoded = |place: usize| kind_of_place(place) == Kind::Sensitive && !matches!(image[place], 1 | 2);
-    if (0..STATE).any(uncoded) || image[0] != 0 || image[PAGE..] != table_page() {
+    let uncoded =
+        |place: usize| kind_of_place(place) == Kind::Sensitive && layout.decoded(image[place]).is_none();
+    if (0..STATE).any(uncoded) || image[0] != 0 || image[PAGE..] != table_page(layout) {
         return refused(19, 0);
     }
     for place in 0..STATE {
         bits[place] = match kind_of_place(place) {
             Kind::Public => image[place],
-            Kind::Sensitive => 2 - image[place],
+            Kind::Sensitive => layout.decoded(image[place]).unwrap(),
             Kind::Other => 0,
         };
     }
@@ -708,6 +714,15 @@ pub fn run(
 
 // ---------------------------------------------------------------- entry points
 
+/// Request 04: a layout outside the six is refused before all else.
+fn in_layout(layout: Layout, answer: impl FnOnce() -> Answer) -> Answer {
+    if layout.is_one_of_six() {
+        answer()
+    } else {
+        refused(23, 0)
+    }
+}
+
 /// The paper as one of the implementations.
 pub struct Paper;
 
@@ -723,14 +738,16 @@ impl Dualrail for Paper {
             .and_then(|lines| mark_check(&lines).map(|()| Answer::Counted(lines.len() as u32)))
             .unwrap_or_else(|answer| answer)
     }
-    fn expand(&self, program: &[u16], out: &mut [u16]) -> Answer {
-        stored_program(program).map_or_else(|answer| answer, |lines| expand(&lines, out))
+    fn expand(&self, layout: Layout, program: &[u16], out: &mut [u16]) -> Answer {
+        in_layout(layout, || {
+            stored_program(program).map_or_else(|answer| answer, |lines| expand(layout, &lines, out))
+        })
     }
-    fn to_image(&self, bits: &[u8], image: &mut [u8]) -> Answer {
-        to_image(bits, image)
+    fn to_image(&self, layout: Layout, bits: &[u8], image: &mut [u8]) -> Answer {
+        in_layout(layout, || to_image(layout, bits, image))
     }
-    fn from_image(&self, image: &[u8], bits: &mut [u8]) -> Answer {
-        from_image(image, bits)
+    fn from_image(&self, layout: Layout, image: &[u8], bits: &mut [u8]) -> Answer {
+        in_layout(layout, || from_image(layout, image, bits))
     }
     fn run(&self, program: &[u16], start: u16, budget: u16, state: &mut [u8], trace: &mut [u16]) -> Answer {
         stored_program(program)

@@ -1,14 +1,35 @@
 //! The plain C that the benchmark measures against (bench/plain.c).
 
-use crate::answer::{Answer, Dualrail};
+use crate::answer::{Answer, Dualrail, Layout};
 
 extern "C" {
     fn plain_read(text: *const u8, text_length: usize, store: *mut u16, store_length: usize) -> u64;
     fn plain_write(program: *const u16, program_length: usize, out: *mut u8, out_length: usize) -> u64;
     fn plain_check(program: *const u16, program_length: usize) -> u64;
-    fn plain_expand(program: *const u16, program_length: usize, out: *mut u16, out_length: usize) -> u64;
-    fn plain_to_image(bits: *const u8, bits_length: usize, image: *mut u8, image_length: usize) -> u64;
-    fn plain_from_image(image: *const u8, image_length: usize, bits: *mut u8, bits_length: usize) -> u64;
+    fn plain_expand(
+        position: u8,
+        spacing: u8,
+        program: *const u16,
+        program_length: usize,
+        out: *mut u16,
+        out_length: usize,
+    ) -> u64;
+    fn plain_to_image(
+        position: u8,
+        spacing: u8,
+        bits: *const u8,
+        bits_length: usize,
+        image: *mut u8,
+        image_length: usize,
+    ) -> u64;
+    fn plain_from_image(
+        position: u8,
+        spacing: u8,
+        image: *const u8,
+        image_length: usize,
+        bits: *mut u8,
+        bits_length: usize,
+    ) -> u64;
     fn plain_run(
         program: *const u16,
         program_length: usize,
@@ -42,14 +63,20 @@ impl Dualrail for Plain {
     fn check(&self, program: &[u16]) -> Answer {
         Answer::from_count(unsafe { plain_check(program.as_ptr(), program.len()) })
     }
-    fn expand(&self, program: &[u16], out: &mut [u16]) -> Answer {
-        Answer::from_count(unsafe { plain_expand(program.as_ptr(), program.len(), out.as_mut_ptr(), out.len()) })
+    fn expand(&self, Layout { position, spacing }: Layout, program: &[u16], out: &mut [u16]) -> Answer {
+        Answer::from_count(unsafe {
+            plain_expand(position, spacing, program.as_ptr(), program.len(), out.as_mut_ptr(), out.len())
+        })
     }
-    fn to_image(&self, bits: &[u8], image: &mut [u8]) -> Answer {
-        Answer::from_count(unsafe { plain_to_image(bits.as_ptr(), bits.len(), image.as_mut_ptr(), image.len()) })
+    fn to_image(&self, Layout { position, spacing }: Layout, bits: &[u8], image: &mut [u8]) -> Answer {
+        Answer::from_count(unsafe {
+            plain_to_image(position, spacing, bits.as_ptr(), bits.len(), image.as_mut_ptr(), image.len())
+        })
     }
-    fn from_image(&self, image: &[u8], bits: &mut [u8]) -> Answer {
-        Answer::from_count(unsafe { plain_from_image(image.as_ptr(), image.len(), bits.as_mut_ptr(), bits.len()) })
+    fn from_image(&self, Layout { position, spacing }: Layout, image: &[u8], bits: &mut [u8]) -> Answer {
+        Answer::from_count(unsafe {
+            plain_from_image(position, spacing, image.as_ptr(), image.len(), bits.as_mut_ptr(), bits.len())
+        })
     }
     fn run(&self, program: &[u16], start: u16, budget: u16, state: &mut [u8], trace: &mut [u16]) -> Answer {
         Answer::from_run(unsafe {

@@ -1,7 +1,7 @@
 //! The example cipher, SIMON32/64: where its bits stand in a bit state, and the
 //! cipher on 16-bit words to compare with.
 
-use crate::answer::{Answer, Dualrail};
+use crate::answer::{Answer, Dualrail, Layout};
 use crate::paper::{LONGEST, ROW, SIX, STATE};
 
 /// The program, bitsliced by hand.
@@ -11,6 +11,9 @@ pub const TEXT: &[u8] = include_bytes!("../../examples/simon32.asm");
 pub const KEY: [u16; 4] = [0x1918, 0x1110, 0x0908, 0x0100];
 pub const PLAINTEXT: [u16; 2] = [0x6565, 0x6877];
 pub const CIPHERTEXT: [u16; 2] = [0xc69b, 0xe9bb];
+
+/// Another key, to compare traces with.
+pub const OTHER_KEY: [u16; 4] = [0x3b62, 0xd4e7, 0x52a9, 0x8c1d];
 
 /// The first sensitive cell's place in a state.
 const CELLS: usize = 32 + 128;
@@ -54,12 +57,13 @@ pub fn encrypt(key: [u16; 4], plaintext: [u16; 2]) -> [u16; 2] {
 }
 
 /// Source and expansion of the example as stored programs.
-pub fn programs(on: &dyn Dualrail) -> (Vec<u16>, Vec<u16>) {
+pub fn programs(on: &dyn Dualrail, layout: Layout) -> (Vec<u16>, Vec<u16>) {
     let mut source = vec![0; SIX * 409];
     let Answer::Counted(count) = on.read(TEXT, &mut source) else { panic!("the example is not read") };
     source.truncate(SIX * count as usize);
     let mut expansion = vec![0; SIX * LONGEST * count as usize];
-    let Answer::Counted(count) = on.expand(&source, &mut expansion) else { panic!("it is not accepted") };
+    let answer = on.expand(layout, &source, &mut expansion);
+    let Answer::Counted(count) = answer else { panic!("it is not accepted: {answer:?}") };
     expansion.truncate(SIX * count as usize);
     (source, expansion)
 }

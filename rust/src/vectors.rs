@@ -13,7 +13,7 @@ use std::panic::{catch_unwind, AssertUnwindSafe};
 use std::path::Path;
 
 /// How many requests of document 02 are in force: one more with each that lands.
-pub const IN_FORCE: u32 = 3;
+pub const IN_FORCE: u32 = 4;
 
 /// What the cases are called on.
 pub struct Tested<'a> {
@@ -75,7 +75,7 @@ mod tests {
     use crate::paper::Paper;
 
     /// A right case for each call, without its first two lines.
-    const RIGHT: [&str; 12] = [
+    const RIGHT: [&str; 16] = [
         "call read\ntext \"u,nop,,,,\\nx\"\nroom 13\nanswer refused 1 1\nwritten 6*0\n",
         "call read\ntext repeat 2 \"u,nop,,,,\\n\"\nroom 13\nanswer count 2\nwritten repeat 2 6*0\n",
         "call write\nprogram \"u,nop,,,,\\n\"\nroom 12\nanswer count 10\nout \"u,nop,,,,\\n\"\n",
@@ -90,6 +90,15 @@ mod tests {
          answer halted 1 1\nrow 0 3 3 0 0 0\nchanged 4=7\n",
         "call walk\nprogram \"u,mov,r4,r5,,\\nu,jmp,,,,1\\n\"\nvalues 544*00\nsets 5 6 1 2\nbudget 9\nanswer spent\n",
         "call walk\nprogram \"\"\nvalues 544*00\nrest 9\nraw 3 17*00\nbudget 9\nanswer refused 22 0\n",
+        "call expand\nlayout 1 1\nprogram \"s,mov,r16,#0,,\\n\"\nroom 24\nanswer count 4\n\
+         out \"s,mov,r3,r0,,\\ns,mov,r3,#8,,\\ns,mov,r16,r0,,\\ns,mov,r16,r3,,\\n\"\n",
+        "call to-image\nlayout 0 1\nstate 16*00 01 527*00\nroom 544\nanswer count 544\nbytes \
+         16*00 01 15*04 128*00 128*04 3*00 01 2*00 04 2*00 04 2*00 04 6*00 01 2*00 01 2*00 01 2*00 04 \
+         6*00 04 2*00 01 2*00 01 2*00 04 195*00 0401 14*00\n",
+        "call from-image\nlayout 0 1\nstate 16*00 01 15*04 128*00 128*04 3*00 01 2*00 04 2*00 04 2*00 04 \
+         6*00 01 2*00 01 2*00 01 2*00 04 6*00 04 2*00 01 2*00 01 2*00 04 195*00 0401 14*00\nroom 544\n\
+         answer count 544\nbytes 16*00 01 527*00\n",
+        "call from-image\nlayout 0 2\nstate -\nroom 0\nanswer refused 23 0\n",
     ];
 
     fn tally(contents: &str, report: &mut dyn FnMut(String)) -> Tally {
@@ -127,6 +136,12 @@ mod tests {
             (10, "spent", "balanced"),
             (10, "sets 5 6 1 2", "sets 5 6 1 3"),
             (11, "raw 3 17*00\n", ""),
+            (5, "layout 0 0", "layout 3 0"),
+            (12, "layout 1 1", "layout 1 0"),
+            (12, "layout 1 1\n", ""),
+            (13, "layout 0 1", "layout 1 0"),
+            (14, "layout 0 1", "layout 0 0"),
+            (15, "layout 0 2", "layout 0 1"),
             // What cannot be read.
             (0, "call read", "call reed"),
             (0, "room 13", "room"),
@@ -135,7 +150,10 @@ mod tests {
             (0, "room 13", "room 5"),
             (2, "program \"u", "program \"x"),
             (2, "room 12", "room 12\nbudget 1"),
-            (5, "layout 0 0", "layout 1 0"),
+            (5, "layout 0 0", "layout 0"),
+            (5, "layout 0 0", "layout 0 0 0"),
+            (5, "layout 0 0", "layout 256 0"),
+            (9, "start 0", "start 0\nlayout 0 0"),
             (9, "row 0 3 3", "row 0 3"),
             (9, "4=7", "544=7"),
             (10, "sets 5 6", "sets 5 544"),

@@ -6,21 +6,41 @@ use dualrail::generate::has_public_bit;
 use dualrail::paper::walk::{self, reach, step_on_sets, step_on_sets_by, Stop, Values, MOST_VALUES, SET};
 use dualrail::paper::{
     self, is_public, part, starts, step, stored_program, value, Line, Opcode, Operand, Paper, MOST_CHECKED,
-    MOST_LINES, ROW, SIX, STATE,
+    MOST_LINES, PAGE, ROW, SIX, STATE,
 };
 use dualrail::Answer::{self, *};
-use dualrail::Dualrail;
+use dualrail::{Dualrail, Layout};
+use std::ops::RangeInclusive;
+
+#[path = "catches/layouts.rs"]
+mod layouts;
+
+/// An entry point with a layout.
+type InLayout<T> = fn(Layout, &[T], &mut [T]) -> Answer;
+/// What a line becomes in a layout.
+type Part = fn(Layout, &Line) -> Vec<Line>;
+/// A change of an image in a layout.
+type Change = fn(Layout, &mut [u8]);
 
 struct Variant {
     fault: &'static str,
     read: fn(&[u8], &mut [u16]) -> Answer,
     write: fn(&[u16], &mut [u8]) -> Answer,
     check: fn(&[u16]) -> Answer,
-    expand: fn(&[u16], &mut [u16]) -> Answer,
-    to_image: fn(&[u8], &mut [u8]) -> Answer,
-    from_image: fn(&[u8], &mut [u8]) -> Answer,
+    expand: InLayout<u16>,
+    to_image: InLayout<u8>,
+    from_image: InLayout<u8>,
     run: fn(&[u16], u16, u16, &mut [u8], &mut [u16]) -> Answer,
     judge: fn(&[u16], &[u8], u16) -> Answer,
+    /// The parts that an expansion is made of, if they are not the right ones.
+    part: Option<Part>,
+    /// What is done to an image after it is made, and before the way back from it.
+    made: Change,
+    given: Change,
+    /// What expand, to_image and from_image take for the layout handed over.
+    taken: [fn(Layout) -> Layout; 3],
+    /// The number that comes before 23 there, 0 if none does.
+    early: [u16; 3],
 }
 
 const RIGHT: Variant = Variant {
@@ -28,12 +48,37 @@ const RIGHT: Variant = Variant {
     read: |text, store| Paper.read(text, store),
     write: |program, out| Paper.write(program, out),
     check: |program| Paper.check(program),
-    expand: |program, out| Paper.expand(program, out),
-    to_image: |bits, image| Paper.to_image(bits, image),
-    from_image: |image, bits| Paper.from_image(image, bits),
+    expand: |layout, program, out| Paper.expand(layout, program, out),
+    to_image: |layout, bits, image| Paper.to_image(layout, bits, image),
+    from_image: |layout, image, bits| Paper.from_image(layout, image, bits),
     run: |program, start, budget, state, trace| Paper.run(program, start, budget, state, trace),
     judge: |program, sets, budget| Paper.judge(program, sets, budget),
+    part: None,
+    made: |_, _| (),
+    given: |_, _| (),
+    taken: [|layout| layout; 3],
+    early: [0; 3],
 };
+
+impl Variant {
+    /// A call of entry point 0, 1 or 2 of those with a layout.
+    fn in_layout<T: Clone>(
+        &self,
+        which: usize,
+        entry: impl Fn(Layout, &[T], &mut [T]) -> Answer,
+        layout: Layout,
+        (input, lent): (&[T], &mut [T]),
+    ) -> Answer {
+        let taken = (self.taken[which])(layout);
+        if self.early[which] != 0 && !taken.is_one_of_six() {
+            let answer = entry(Layout::LOWEST, input, &mut lent.to_vec());
+            if matches!(answer, Refused { number, .. } if number == self.early[which]) {
+                return answer;
+            }
+        }
+        entry(taken, input, lent)
+    }
+}
 
 impl Dualrail for Variant {
     fn read(&self, text: &[u8], store: &mut [u16]) -> Answer {
@@ -45,14 +90,32 @@ impl Dualrail for Variant {
     fn check(&self, program: &[u16]) -> Answer {
         (self.check)(program)
     }
-    fn expand(&self, program: &[u16], out: &mut [u16]) -> Answer {
-        (self.expand)(program, out)
+    fn expand(&self, layout: Layout, program: &[u16], out: &mut [u16]) -> Answer {
+        let entry = |layout, program: &[u16], out: &mut [u16]| match self.part {
+            Some(part) => expanded_by(layout, program, out, part),
+            None => (self.expand)(layout, program, out),
+        };
+        self.in_layout(0, entry, layout, (program, out))
     }
-    fn to_image(&self, bits: &[u8], image: &mut [u8]) -> Answer {
-        (self.to_image)(bits, image)
+    fn to_image(&self, layout: Layout, bits: &[u8], image: &mut [u8]) -> Answer {
+        let entry = |layout, bits: &[u8], image: &mut [u8]| {
+            let answer = (self.to_image)(layout, bits, image);
+            if let Counted(_) = answer {
+                (self.made)(layout, image);
+            }
+            answer
+        };
+        self.in_layout(1, entry, layout, (bits, image))
     }
-    fn from_image(&self, image: &[u8], bits: &mut [u8]) -> Answer {
-        (self.from_image)(image, bits)
+    fn from_image(&self, layout: Layout, image: &[u8], bits: &mut [u8]) -> Answer {
+        let entry = |layout: Layout, image: &[u8], bits: &mut [u8]| {
+            let mut image = image.to_vec();
+            if layout.is_one_of_six() && image.len() == STATE {
+                (self.given)(layout, &mut image);
+            }
+            (self.from_image)(layout, &image, bits)
+        };
+        self.in_layout(2, entry, layout, (image, bits))
     }
     fn run(&self, program: &[u16], start: u16, budget: u16, state: &mut [u8], trace: &mut [u16]) -> Answer {
         (self.run)(program, start, budget, state, trace)
@@ -79,14 +142,15 @@ fn replaced(text: &[u8], from: &str, to: &str) -> Vec<u8> {
 /// Expands, then changes each line of the expansion, given the source's line,
 /// the place in its part and the part's length.
 fn changed_expansion(
+    layout: Layout,
     program: &[u16],
     out: &mut [u16],
     change: fn(&mut [u16], &Line, usize, usize),
 ) -> Answer {
-    let answer = Paper.expand(program, out);
+    let answer = Paper.expand(layout, program, out);
     if let Counted(_) = answer {
         let lines = stored_program(program).unwrap();
-        let starts = starts(&lines);
+        let starts = starts(layout, &lines);
         for (at, line) in lines.iter().enumerate() {
             let length = starts[at + 1] - starts[at];
             for place in 0..length {
@@ -123,16 +187,18 @@ fn changed_run(
 }
 
 /// Expands, each line's part made by another rule.
-fn expanded_by(program: &[u16], out: &mut [u16], part: fn(&Line) -> Vec<Line>) -> Answer {
-    let (Counted(_), Ok(lines)) = (Paper.check(program), stored_program(program)) else {
-        return Paper.expand(program, out);
+fn expanded_by(layout: Layout, program: &[u16], out: &mut [u16], part: Part) -> Answer {
+    let (true, Counted(_), Ok(lines)) =
+        (layout.is_one_of_six(), Paper.check(program), stored_program(program))
+    else {
+        return Paper.expand(layout, program, out);
     };
     let mut starts = vec![0];
     for line in &lines {
-        starts.push(starts[starts.len() - 1] + part(line).len());
+        starts.push(starts[starts.len() - 1] + part(layout, line).len());
     }
     let mut numbers = vec![];
-    for mut line in lines.iter().flat_map(part) {
+    for mut line in lines.iter().flat_map(|line| part(layout, line)) {
         line.target = line.target.map(|target| starts[target as usize] as u16);
         numbers.extend(line.stored());
     }
@@ -141,6 +207,13 @@ fn expanded_by(program: &[u16], out: &mut [u16], part: fn(&Line) -> Vec<Line>) -
     }
     out[..numbers.len()].copy_from_slice(&numbers);
     Counted((numbers.len() / SIX) as u32)
+}
+
+/// Where a state has the codes of a public bit, and what it has there.
+const PUBLIC_BITS: RangeInclusive<usize> = 32 + 496..=32 + 497;
+
+fn public_bits(layout: Layout) -> [u8; 2] {
+    [layout.code(0), layout.code(1)]
 }
 
 /// The right step with the line as a wrong machine takes it in the state.
@@ -607,18 +680,18 @@ fn variants() -> Vec<Variant> {
         // Expansion.
         Variant {
             fault: "source targets kept",
-            expand: |program, out| {
-                changed_expansion(program, out, |six, line, _, _| six[5] = line.stored()[5])
+            expand: |layout, program, out| {
+                changed_expansion(layout, program, out, |six, line, _, _| six[5] = line.stored()[5])
             },
             ..RIGHT
         },
         Variant {
             fault: "the first line expanded, the others copied",
-            expand: |program, out| {
-                let answer = Paper.expand(program, out);
+            expand: |layout, program, out| {
+                let answer = Paper.expand(layout, program, out);
                 match (answer, stored_program(program)) {
                     (Counted(_), Ok(lines)) if !lines.is_empty() => {
-                        let first = starts(&lines)[1];
+                        let first = starts(layout, &lines)[1];
                         let rest = &program[SIX..SIX * lines.len()];
                         out[SIX * first..][..rest.len()].copy_from_slice(rest);
                         Counted((first + lines.len() - 1) as u32)
@@ -630,7 +703,7 @@ fn variants() -> Vec<Variant> {
         },
         Variant {
             fault: "the program copied whole",
-            expand: |program, out| match Paper.expand(program, out) {
+            expand: |layout, program, out| match Paper.expand(layout, program, out) {
                 Counted(_) => {
                     let size = program.len() / SIX * SIX;
                     out[..size].copy_from_slice(&program[..size]);
@@ -642,8 +715,8 @@ fn variants() -> Vec<Variant> {
         },
         Variant {
             fault: "the destination not cleared first",
-            expand: |program, out| {
-                changed_expansion(program, out, |six, line, place, length| {
+            expand: |layout, program, out| {
+                changed_expansion(layout, program, out, |six, line, place, length| {
                     if line.marked && place + 2 == length {
                         six[3] = if line.opcode == Opcode::Not { 258 } else { 260 };
                     }
@@ -653,8 +726,8 @@ fn variants() -> Vec<Variant> {
         },
         Variant {
             fault: "the destination cleared before the argument is loaded",
-            expand: |program, out| {
-                changed_expansion(program, out, |six, line, place, _| {
+            expand: |layout, program, out| {
+                changed_expansion(layout, program, out, |six, line, place, _| {
                     if line.marked && place == 0 {
                         six[2] = line.stored()[2];
                     }
@@ -664,8 +737,8 @@ fn variants() -> Vec<Variant> {
         },
         Variant {
             fault: "a public literal coded",
-            expand: |program, out| {
-                changed_expansion(program, out, |six, line, _, _| {
+            expand: |layout, program, out| {
+                changed_expansion(layout, program, out, |six, line, _, _| {
                     if !line.marked && six[4] == 1 {
                         six[4] = 3;
                     }
@@ -675,12 +748,12 @@ fn variants() -> Vec<Variant> {
         },
         Variant {
             fault: "new lines unmarked",
-            expand: |program, out| changed_expansion(program, out, |six, _, _, _| six[0] = 0),
+            expand: |layout, program, out| changed_expansion(layout, program, out, |six, _, _, _| six[0] = 0),
             ..RIGHT
         },
         Variant {
             fault: "all programs turned down",
-            expand: |program, _| match Paper.check(program) {
+            expand: |layout, program, out| match Paper.expand(layout, program, &mut out.to_vec()) {
                 Counted(1..) => Refused { number: 10, line: 0 },
                 answer => answer,
             },
@@ -688,122 +761,94 @@ fn variants() -> Vec<Variant> {
         },
         Variant {
             fault: "a public place loaded by one line",
-            expand: |program, out| {
-                expanded_by(program, out, |line| {
-                    let mut lines = part(line);
-                    lines.retain(|new| !new.marked || !(masks(new) || decodes(new)));
-                    lines
-                })
-            },
+            part: Some(|layout, line| {
+                let mut lines = part(layout, line);
+                lines.retain(|new| !new.marked || !(masks(new) || decodes(new)));
+                lines
+            }),
             ..RIGHT
         },
         Variant {
             fault: "a public place loaded without and #1",
-            expand: |program, out| {
-                expanded_by(program, out, |line| {
-                    let mut lines = part(line);
-                    lines.retain(|new| !new.marked || !masks(new));
-                    lines
-                })
-            },
+            part: Some(|layout, line| {
+                let mut lines = part(layout, line);
+                lines.retain(|new| !new.marked || !masks(new));
+                lines
+            }),
             ..RIGHT
         },
         Variant {
             fault: "the second argument alone loaded by three lines",
-            expand: |program, out| {
-                expanded_by(program, out, |line| {
-                    let first = Some(Operand::Register(1));
-                    let mut lines = part(line);
-                    lines.retain(|new| {
-                        new.destination != first || !new.marked || !(masks(new) || decodes(new))
-                    });
-                    lines
-                })
-            },
+            part: Some(|layout, line| {
+                let first = Some(Operand::Register(1));
+                let mut lines = part(layout, line);
+                lines.retain(|new| new.destination != first || !new.marked || !(masks(new) || decodes(new)));
+                lines
+            }),
             ..RIGHT
         },
         Variant {
             fault: "no and #3 after a public place is loaded",
-            expand: |program, out| {
-                expanded_by(program, out, |line| {
-                    let mut lines = part(line);
-                    for at in (1..lines.len()).rev() {
-                        if decodes(&lines[at - 1]) && lines[at].opcode == Opcode::And {
-                            lines.remove(at);
-                        }
+            part: Some(|layout, line| {
+                let mut lines = part(layout, line);
+                for at in (1..lines.len()).rev() {
+                    if decodes(&lines[at - 1]) && lines[at].opcode == Opcode::And {
+                        lines.remove(at);
                     }
-                    lines
-                })
-            },
+                }
+                lines
+            }),
             ..RIGHT
         },
         Variant {
             fault: "a public place behind a base loaded by one line",
-            expand: |program, out| {
-                expanded_by(program, out, |line| match line.first {
-                    Some(Operand::Public { base, offset }) if line.marked => {
-                        // `%` is loaded by one, and then `!` stands for it.
-                        let other = Some(Operand::Sensitive { base, offset });
-                        let mut lines = part(&Line { first: other, ..*line });
-                        lines[1].first = line.first;
-                        lines
-                    }
-                    _ => part(line),
-                })
-            },
+            part: Some(|layout, line| match line.first {
+                Some(Operand::Public { base, offset }) if line.marked => {
+                    // `%` is loaded by one, and then `!` stands for it.
+                    let other = Some(Operand::Sensitive { base, offset });
+                    let mut lines = part(layout, &Line { first: other, ..*line });
+                    lines[1].first = line.first;
+                    lines
+                }
+                _ => part(layout, line),
+            }),
             ..RIGHT
         },
         // Images.
         Variant {
             fault: "one wrong entry of the xor table",
-            to_image: |bits, image| {
-                let answer = Paper.to_image(bits, image);
-                if let Counted(_) = answer {
-                    image[32 + 256 + 32] = 2;
-                }
-                answer
+            made: |layout, image| {
+                image[PAGE + layout.table(2) as usize] = layout.code(0);
             },
             ..RIGHT
         },
         Variant {
             fault: "cells 496 and 497 exchanged",
-            to_image: |bits, image| {
-                let answer = Paper.to_image(bits, image);
-                if let Counted(_) = answer {
-                    image.swap(32 + 496, 32 + 497);
-                }
-                answer
-            },
+            made: |_, image| image.swap(32 + 496, 32 + 497),
             ..RIGHT
         },
         Variant {
             fault: "the image without cells 496 and 497",
-            to_image: |bits, image| {
-                let answer = Paper.to_image(bits, image);
-                if let Counted(_) = answer {
-                    image[32 + 496..=32 + 497].fill(0);
-                }
-                answer
-            },
+            made: |_, image| image[PUBLIC_BITS].fill(0),
             ..RIGHT
         },
         Variant {
             fault: "scratch registers may be filled",
-            to_image: |bits, image| {
+            to_image: |layout, bits, image| {
                 let mut bits = bits.to_vec();
                 if bits.len() > 3 {
                     bits[1..=3].fill(0);
                 }
-                Paper.to_image(&bits, image)
+                Paper.to_image(layout, &bits, image)
             },
             ..RIGHT
         },
         Variant {
             fault: "19 before 18",
-            to_image: |bits, image| match Paper.to_image(bits, image) {
+            to_image: |layout, bits, image| match Paper.to_image(layout, bits, image) {
                 Refused { number: 18, .. } => {
                     let mut lent = [0; 544];
-                    match Paper.to_image(bits, &mut lent) {
+                    match Paper.to_image(layout, bits, &mut lent) {
                         Counted(_) => refused(18),
                         answer => answer,
                     }
@@ -814,8 +859,8 @@ fn variants() -> Vec<Variant> {
         },
         Variant {
             fault: "the way back keeps r1 to r3",
-            from_image: |image, bits| {
-                let answer = Paper.from_image(image, bits);
+            from_image: |layout, image, bits| {
+                let answer = Paper.from_image(layout, image, bits);
                 if let Counted(_) = answer {
                     bits[1..=3].copy_from_slice(&image[1..=3]);
                 }
@@ -823,48 +868,27 @@ fn variants() -> Vec<Variant> {
             },
             ..RIGHT
         },
-        Variant {
-            fault: "the way back does not look at r0",
-            from_image: |image, bits| {
-                let mut image = image.to_vec();
-                if !image.is_empty() {
-                    image[0] = 0;
-                }
-                Paper.from_image(&image, bits)
-            },
-            ..RIGHT
-        },
+        Variant { fault: "the way back does not look at r0", given: |_, image| image[0] = 0, ..RIGHT },
         Variant {
             fault: "the way back does not look at cells 496 and 497",
-            from_image: |image, bits| {
-                let mut image = image.to_vec();
-                if image.len() == STATE {
-                    image[32 + 496..=32 + 497].copy_from_slice(&[2, 1]);
-                }
-                Paper.from_image(&image, bits)
-            },
+            given: |layout, image| image[PUBLIC_BITS].copy_from_slice(&public_bits(layout)),
             ..RIGHT
         },
         Variant {
             fault: "the way back takes images without cells 496 and 497",
-            from_image: |image, bits| {
-                let mut image = image.to_vec();
-                if image.len() == STATE && image[32 + 496..=32 + 497] == [0, 0] {
-                    image[32 + 496..=32 + 497].copy_from_slice(&[2, 1]);
+            given: |layout, image| {
+                if image[PUBLIC_BITS] == [0, 0] {
+                    image[PUBLIC_BITS].copy_from_slice(&public_bits(layout));
                 }
-                Paper.from_image(&image, bits)
             },
             ..RIGHT
         },
         Variant {
             fault: "the way back takes any two codes in cells 496 and 497",
-            from_image: |image, bits| {
-                let mut image = image.to_vec();
-                if image.len() == STATE && image[32 + 496..=32 + 497].iter().all(|code| [1, 2].contains(code))
-                {
-                    image[32 + 496..=32 + 497].copy_from_slice(&[2, 1]);
+            given: |layout, image| {
+                if image[PUBLIC_BITS].iter().all(|&code| layout.decoded(code).is_some()) {
+                    image[PUBLIC_BITS].copy_from_slice(&public_bits(layout));
                 }
-                Paper.from_image(&image, bits)
             },
             ..RIGHT
         },
@@ -1593,7 +1617,8 @@ fn variants() -> Vec<Variant> {
 #[test]
 fn no_fault_but_the_named_ones() {
     let right = Variant {
-        expand: |program, out| expanded_by(program, out, part),
+        part: Some(part),
+        made: layouts::right_entries,
         run: |program, start, budget, state, trace| {
             run_taking((program, start, budget), state, trace, |line, state| {
                 reading(line, state, |_, _| Reads::Right)
@@ -1614,10 +1639,11 @@ fn no_fault_but_the_named_ones() {
 #[test]
 fn every_fault_is_found() {
     assert!(compare(&RIGHT, 2, 1, 200).is_ok());
-    for variant in variants() {
+    let named = |variant: Variant| (variant.fault.to_string(), variant);
+    for (fault, variant) in variants().into_iter().map(named).chain(layouts::variants()) {
         match compare(&variant, 2, 1, 10_000) {
-            Ok(_) => panic!("not found: {}", variant.fault),
-            Err(report) => println!("{:52} {}", variant.fault, report.lines().next().unwrap()),
+            Ok(_) => panic!("not found: {fault}"),
+            Err(report) => println!("{fault:60} {}", report.lines().next().unwrap()),
         }
     }
 }

@@ -1,10 +1,10 @@
 //! The library against the paper, on many random calls.
 
-use dualrail::compare::compare;
+use dualrail::compare::{compare, Counts, WITH_LAYOUT};
 use dualrail::plain::Plain;
 use dualrail::Library;
 
-const CASES: u64 = 78_000;
+const CASES: u64 = 84_000;
 
 fn from_environment(name: &str) -> Option<u64> {
     std::env::var(name).ok().map(|value| value.parse().expect("a number"))
@@ -29,7 +29,7 @@ fn library_against_paper() {
             _ => assert!(count >= 300, "refusal {number} came {count} times only"),
         }
     }
-    assert!(counts.halted >= 10_000 && counts.spent >= 10_000 && counts.whole_runs >= 10_000);
+    assert!(counts.halted >= 10_000 && counts.spent >= 10_000);
     assert!(counts.public_bits >= 50_000, "{} public bits only", counts.public_bits);
     for number in [3, 4, 5, 6, 7, 18, 21, 22] {
         let count = counts.refused_walks[number];
@@ -39,6 +39,28 @@ fn library_against_paper() {
     assert!(
         counts.crowded >= 100 && counts.leaks_shown >= 500 && counts.exact.iter().all(|&count| count >= 300)
     );
+    layouts_are_met(&counts);
+}
+
+/// Request 04: each of the six layouts often, in whole runs and walks too, and 23 before every other refusal.
+fn layouts_are_met(counts: &Counts) {
+    assert!(counts.whole_runs.iter().all(|&count| count >= 3_000), "{:?} whole runs only", counts.whole_runs);
+    for [balanced, spent] in counts.image_walks {
+        assert!(balanced >= 500 && spent >= 500, "{:?} walks on images only", counts.image_walks);
+    }
+    assert!(counts.other_images >= 200, "{} images of other layouts only", counts.other_images);
+    let others: [&[usize]; 3] =
+        [&[0, 3, 4, 5, 6, 7, 9, 10, 11, 12, 14, 15, 16, 17], &[0, 18, 19], &[0, 18, 19]];
+    for (at, entry) in WITH_LAYOUT.iter().enumerate() {
+        let successes = counts.in_layout[at];
+        assert!(successes.iter().all(|&count| count >= 3_000), "{entry:?} succeeds {successes:?} times only");
+        let outside = counts.outside[at];
+        assert!(outside.iter().all(|&count| count >= 1_000), "{entry:?}: 23 came {outside:?} times only");
+        for &other in others[at] {
+            let count = counts.before[at][other];
+            assert!(count >= 100, "{entry:?}: 23 came before {other} {count} times only");
+        }
+    }
 }
 
 /// The measure of the benchmark does the same job.

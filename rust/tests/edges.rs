@@ -4,7 +4,7 @@ use dualrail::paper::walk::SET;
 use dualrail::paper::{Paper, ROW, SIX, STATE};
 use dualrail::plain::Plain;
 use dualrail::Answer::{self, *};
-use dualrail::{Dualrail, Library};
+use dualrail::{Dualrail, Layout, Library};
 
 fn each(test: fn(&dyn Dualrail)) {
     test(&Library);
@@ -231,22 +231,25 @@ fn public_bits() {
 }
 
 /// The expansion as text.
-fn expanded(on: &dyn Dualrail, text: &str) -> String {
+fn expanded(on: &dyn Dualrail, layout: Layout, text: &str) -> String {
     let mut expansion = [0; SIX * 100];
-    let Counted(lines) = on.expand(&stored(on, text), &mut expansion) else { panic!("{text}") };
+    let Counted(lines) = on.expand(layout, &stored(on, text), &mut expansion) else { panic!("{text}") };
     let mut out = [0; 4_096];
     let Counted(size) = on.write(&expansion[..SIX * lines as usize], &mut out) else { panic!("{text}") };
     String::from_utf8_lossy(&out[..size as usize]).into_owned()
+}
+
+/// A marked line's expansion must be these lines, written without their mark.
+fn becomes(on: &dyn Dualrail, layout: Layout, text: &str, lines: &[&str]) {
+    let wanted: String = lines.iter().map(|line| format!("s,{line}\n")).collect();
+    assert_eq!(expanded(on, layout, text), wanted, "{layout:?}");
 }
 
 /// Request 03: a public place is loaded by three lines, anything else by one as before.
 #[test]
 fn loads() {
     each(|on| {
-        let same = |text: &str, lines: &[&str]| {
-            let wanted: String = lines.iter().map(|line| format!("s,{line}\n")).collect();
-            assert_eq!(expanded(on, text), wanted);
-        };
+        let same = |text: &str, lines: &[&str]| becomes(on, Layout::LOWEST, text, lines);
         same(
             "s,xor,r16,r16,r4,\n",
             &[
@@ -332,12 +335,12 @@ fn loads() {
         );
         same("s,mov,r16,@128,,\n", &["mov,r3,r0,,", "mov,r3,@128,,", "mov,r16,r0,,", "mov,r16,r3,,"]);
         // Targets follow the longer parts.
-        let jumps = expanded(on, "u,jmp,,,,2\ns,xor,r16,r4,r5,\nu,jmp,,,,0\n");
+        let jumps = expanded(on, Layout::LOWEST, "u,jmp,,,,2\ns,xor,r16,r4,r5,\nu,jmp,,,,0\n");
         assert!(jumps.starts_with("u,jmp,,,,18\n") && jumps.ends_with("u,jmp,,,,0\n"), "{jumps}");
         let longest = stored(on, &"s,xor,r16,r4,r5,\n".repeat(1_024));
         let mut expansion = vec![0; SIX * 17 * 1_024];
-        assert_eq!(on.expand(&longest, &mut expansion[1..]), refused(17, 0));
-        assert_eq!(on.expand(&longest, &mut expansion), Counted(17_408));
+        assert_eq!(on.expand(Layout::LOWEST, &longest, &mut expansion[1..]), refused(17, 0));
+        assert_eq!(on.expand(Layout::LOWEST, &longest, &mut expansion), Counted(17_408));
     });
 }
 
@@ -419,14 +422,14 @@ fn the_two_programs() {
     each(|on| {
         let program = stored(on, "s,not,r16,r17,,\n");
         let mut expansion = [0; SIX * 5];
-        assert_eq!(on.expand(&program, &mut expansion), Counted(5));
+        assert_eq!(on.expand(Layout::LOWEST, &program, &mut expansion), Counted(5));
         let mut text = [0; 100];
         let Counted(size) = on.write(&expansion, &mut text) else { panic!() };
         let printed: &[u8] =
             b"s,mov,r1,r0,,\ns,mov,r1,r17,,\ns,xor,r1,r1,#3,\ns,mov,r16,r0,,\ns,mov,r16,r1,,\n";
         assert_eq!(&text[..size as usize], printed);
         let mut image = [0; STATE];
-        assert_eq!(on.to_image(&[0; STATE], &mut image), Counted(544));
+        assert_eq!(on.to_image(Layout::LOWEST, &[0; STATE], &mut image), Counted(544));
         let mut trace = [0; ROW * 1_000];
         assert_eq!(on.run(&expansion, 0, 1_000, &mut image, &mut trace), Halted { counter: 5, steps: 5 });
         let rows = [
@@ -444,7 +447,7 @@ fn the_two_programs() {
 fn tables() {
     each(|on| {
         let mut image = [0; STATE];
-        on.to_image(&[0; STATE], &mut image);
+        on.to_image(Layout::LOWEST, &[0; STATE], &mut image);
         let page = &image[32 + 256..];
         assert_eq!((page[5], page[6], page[16 + 9], page[32 + 5], page[32]), (1, 2, 1, 2, 0));
         // Request 03: cells 496 and 497.
@@ -452,11 +455,208 @@ fn tables() {
         assert_eq!(page.iter().filter(|&&entry| entry != 0).count(), 14);
         assert_eq!((image[0], image[16], image[32 + 255], image[32 + 127]), (0, 2, 2, 0));
         let mut bits = [0; STATE];
-        assert_eq!(on.from_image(&image, &mut bits), Counted(544));
+        assert_eq!(on.from_image(Layout::LOWEST, &image, &mut bits), Counted(544));
         // An image of before it is one no more.
         for cells in [[0, 0], [2, 0], [0, 1], [1, 2], [2, 2], [1, 1]] {
             image[32 + 496..=32 + 497].copy_from_slice(&cells);
-            assert_eq!(on.from_image(&image, &mut bits), refused(19, 0), "{cells:?}");
+            assert_eq!(on.from_image(Layout::LOWEST, &image, &mut bits), refused(19, 0), "{cells:?}");
         }
+    });
+}
+
+const NEIGHBOURS_1: Layout = Layout::at(1, 0);
+const NEIGHBOURS_2: Layout = Layout::at(2, 0);
+const SPACED_0: Layout = Layout::at(0, 1);
+const SPACED_1: Layout = Layout::at(1, 1);
+const SPACED_2: Layout = Layout::at(2, 1);
+
+/// Request 04: neighbours at position 1 have the codes 2 for 1 and 4 for 0, mask 6, tables at 0, 32 and 64.
+#[test]
+fn neighbours_in_macros() {
+    each(|on| {
+        becomes(
+            on,
+            NEIGHBOURS_1,
+            "s,orr,@200,r31,#1,\n",
+            &[
+                "mov,r1,r0,,",
+                "mov,r1,r31,,",
+                "and,r1,r1,#6,",
+                "lsl,r1,r1,#1,",
+                "lsl,r1,r1,#1,",
+                "mov,r2,r0,,",
+                "mov,r2,#2,,",
+                "and,r2,r2,#6,",
+                "orr,r1,r1,r2,",
+                "mov,r3,r0,,",
+                "mov,r3,^r1+32,,",
+                "mov,@200,r0,,",
+                "mov,@200,r3,,",
+            ],
+        );
+        let not = ["mov,r1,r0,,", "mov,r1,#4,,", "xor,r1,r1,#6,", "mov,r16,r0,,", "mov,r16,r1,,"];
+        becomes(on, NEIGHBOURS_1, "s,not,r16,#0,,\n", &not);
+        let mov = ["mov,r3,r0,,", "mov,r3,#8,,", "mov,r16,r0,,", "mov,r16,r3,,"];
+        becomes(on, NEIGHBOURS_2, "s,mov,r16,#0,,\n", &mov);
+        // An unmarked line becomes itself in every layout.
+        assert_eq!(expanded(on, SPACED_2, "u,and,r4,#1,#0,\n"), "u,and,r4,#1,#0,\n");
+    });
+}
+
+/// Request 04: spaced at position 2 the codes are 4 and 16, the mask is 20, the tables at 0, 64 and 128.
+#[test]
+fn spaced_in_macros() {
+    each(|on| {
+        becomes(
+            on,
+            SPACED_2,
+            "s,xor,r16,%r4+3,#0,\n",
+            &[
+                "mov,r1,r0,,",
+                "mov,r1,%r4+3,,",
+                "and,r1,r1,#20,",
+                "lsl,r1,r1,#1,",
+                "mov,r2,r0,,",
+                "mov,r2,#16,,",
+                "and,r2,r2,#20,",
+                "orr,r1,r1,r2,",
+                "mov,r3,r0,,",
+                "mov,r3,^r1+128,,",
+                "mov,r16,r0,,",
+                "mov,r16,r3,,",
+            ],
+        );
+        let not = ["mov,r1,r0,,", "mov,r1,r17,,", "xor,r1,r1,#20,", "mov,r16,r0,,", "mov,r16,r1,,"];
+        becomes(on, SPACED_2, "s,not,r16,r17,,\n", &not);
+        // Targets follow the shorter parts: 12 lines, and 16 with two public places.
+        let text = "u,jmp,,,,3\ns,xor,r16,r17,#1,\ns,xor,r16,r4,@5,\nu,jmp,,,,2\n";
+        let jumps = expanded(on, SPACED_0, text);
+        assert!(jumps.starts_with("u,jmp,,,,29\n") && jumps.ends_with("\nu,jmp,,,,13\n"), "{jumps}");
+    });
+}
+
+/// Request 04: spaced at position 1 the codes are 2 and 8 and the mask is 10; a public bit still is the lowest.
+#[test]
+fn a_public_bit_when_spaced() {
+    each(|on| {
+        becomes(
+            on,
+            SPACED_1,
+            "s,and,r20,r4,r17,\n",
+            &[
+                "mov,r1,r0,,",
+                "mov,r1,r4,,",
+                "and,r1,r1,#1,",
+                "mov,r1,^r1+240,,",
+                "and,r1,r1,#10,",
+                "lsl,r1,r1,#1,",
+                "mov,r2,r0,,",
+                "mov,r2,r17,,",
+                "and,r2,r2,#10,",
+                "orr,r1,r1,r2,",
+                "mov,r3,r0,,",
+                "mov,r3,^r1+0,,",
+                "mov,r20,r0,,",
+                "mov,r20,r3,,",
+            ],
+        );
+    });
+}
+
+/// The cells of the page of a layout's images that are not 0.
+fn page_cells(on: &dyn Dualrail, layout: Layout) -> Vec<(usize, u8)> {
+    let mut image = [9; STATE];
+    assert_eq!(on.to_image(layout, &[0; STATE], &mut image), Counted(544));
+    let cells = image[32..].iter().copied().enumerate().skip(256);
+    cells.filter(|&(_, value)| value != 0).collect()
+}
+
+/// Request 04: the table pages of a spaced layout and of a higher one.
+#[test]
+fn pages() {
+    each(|on| {
+        // Spaced at position 1: indices 6 (1, 1), 12 (1, 0), 18 (0, 1), 24 (0, 0), tables at 256, 288 and 320.
+        let and = [(262, 2), (268, 8), (274, 8), (280, 8)];
+        let orr = [(294, 2), (300, 2), (306, 2), (312, 8)];
+        let xor = [(326, 8), (332, 2), (338, 2), (344, 8)];
+        assert_eq!(page_cells(on, SPACED_1), [&and[..], &orr, &xor, &[(496, 8), (497, 2)]].concat());
+        // Neighbours at position 2: indices 20, 24, 36 and 40, tables at 256, 320 and 384.
+        let and = [(276, 4), (280, 8), (292, 8), (296, 8)];
+        let orr = [(340, 4), (344, 4), (356, 4), (360, 8)];
+        let xor = [(404, 8), (408, 4), (420, 4), (424, 8)];
+        assert_eq!(page_cells(on, NEIGHBOURS_2), [&and[..], &orr, &xor, &[(496, 8), (497, 4)]].concat());
+    });
+}
+
+/// Request 04: codes of the layout in the image, and the way back by these alone.
+#[test]
+fn codes() {
+    each(|on| {
+        let codes = [(NEIGHBOURS_1, 4, 2), (NEIGHBOURS_2, 8, 4), (SPACED_0, 4, 1), (SPACED_2, 16, 4)];
+        for (layout, zero, one) in codes {
+            let mut bits = [0; STATE];
+            bits[31] = 1;
+            bits[32 + 127] = 200;
+            let mut image = [0; STATE];
+            assert_eq!(on.to_image(layout, &bits, &mut image), Counted(544));
+            assert_eq!((image[31], image[32 + 127], image[32 + 128]), (one, 200, zero), "{layout:?}");
+            let mut back = [9; STATE];
+            assert_eq!(on.from_image(layout, &image, &mut back), Counted(544));
+            assert_eq!(back, bits);
+            for other in [zero + one, 0, 1, 2, 4, 8, 16, 32] {
+                image[32 + 255] = other;
+                let right = other == zero || other == one;
+                let answer = if right { Counted(544) } else { refused(19, 0) };
+                assert_eq!(on.from_image(layout, &image, &mut back), answer, "{layout:?}, code {other}");
+            }
+        }
+    });
+}
+
+/// Request 04: the printed trace is the same in every layout, the codes having one bit each.
+#[test]
+fn a_run_in_each_layout() {
+    each(|on| {
+        for (layout, one) in Layout::ALL.into_iter().zip([1, 2, 4, 1, 2, 4]) {
+            let mut expansion = [0; SIX * 5];
+            on.expand(layout, &stored(on, "s,not,r16,r17,,\n"), &mut expansion);
+            let mut image = [0; STATE];
+            on.to_image(layout, &[0; STATE], &mut image);
+            let mut trace = [0; ROW * 5];
+            assert_eq!(on.run(&expansion, 0, 5, &mut image, &mut trace), Halted { counter: 5, steps: 5 });
+            let ones: Vec<[u16; 2]> = trace.chunks_exact(ROW).map(|row| [row[1], row[2]]).collect();
+            assert_eq!(ones, [[0, 0], [1, 1], [1, 2], [0, 1], [1, 1]], "{layout:?}");
+            assert_eq!(image[16], one, "{layout:?}");
+        }
+    });
+}
+
+/// Request 04: 23 before all else, at line 0.
+#[test]
+fn layouts_outside() {
+    each(|on| {
+        let mut state = [7; STATE];
+        let mut numbers = [7; SIX];
+        for (position, spacing) in [(3, 0), (0, 2), (3, 2), (255, 1), (2, 255), (255, 255)] {
+            let layout = Layout::at(position, spacing);
+            // A right program; no line; a line that is not accepted; too little room; too many lines.
+            let nop = stored(on, "u,nop,,,,\n");
+            assert_eq!(on.expand(layout, &nop, &mut numbers), refused(23, 0));
+            assert_eq!(on.expand(layout, &[9; SIX], &mut numbers), refused(23, 0));
+            assert_eq!(on.expand(layout, &stored(on, "u,nop,,,,\ns,nop,,,,\n"), &mut []), refused(23, 0));
+            assert_eq!(on.expand(layout, &nop, &mut []), refused(23, 0));
+            assert_eq!(on.expand(layout, &nop.repeat(1_025), &mut []), refused(23, 0));
+            assert_eq!(on.expand(layout, &nop.repeat(32_769), &mut []), refused(23, 0));
+            // Right states, wrong places, wrong lengths.
+            let mut image = [0; STATE];
+            assert_eq!(on.to_image(Layout::LOWEST, &[0; STATE], &mut image), Counted(544));
+            for input in [&[0; STATE][..], &image, &[255; STATE], &[], &[0; STATE + 1]] {
+                assert_eq!(on.to_image(layout, input, &mut state), refused(23, 0));
+                assert_eq!(on.to_image(layout, input, &mut []), refused(23, 0));
+                assert_eq!(on.from_image(layout, input, &mut state), refused(23, 0));
+                assert_eq!(on.from_image(layout, input, &mut []), refused(23, 0));
+            }
+        }
+        assert!(state == [7; STATE] && numbers == [7; SIX]);
     });
 }

@@ -4,7 +4,7 @@ use mathlib.Core.Path.{_≡_, refl, sym, ap, ap₂, _∙_, subst}
 use mathlib.Core.List.{List, [], _∷_, flatMap}
 use Prim.Native.Nat.{ℕ, _*_, _≤_}
 use lib.ListN.{length}
-use Rattle.model.specs.Layouts.{neighbours, near}
+use Rattle.model.specs.Layouts.{layoutOf}
 use Rattle.model.specs.Answers.{Report, done, report, counted, Outcome, outcome, atFront}
 use Rattle.model.specs.Limits.{lineWidth}
 use Rattle.model.specs.Expansion.{expandOutcome}
@@ -14,7 +14,7 @@ use Rattle.model.specs.Places.{State}
 use Rattle.model.specs.Stored.{lines, programCheck}
 use Rattle.model.specs.Run.{run, answer, runOutcome}
 use Rattle.model.proofs.OutcomeLaws.{never-done, run-outcome}
-use Rattle.model.proofs.CheckAnswers.{CountOrRefusal, counts, refuses, program-answers, expansion-answers, NoCount, Refusal, no-count-refuses}
+use Rattle.model.proofs.CheckAnswers.{CountOrRefusal, counts, refuses, program-answers, expand-answers, NoCount, Refusal, no-count-refuses}
 use Rattle.walk.specs.declared.Verdict.{Verdict}
 use Rattle.walk.specs.Gathering.{refusalOf}
 use Rattle.walk.specs.Walk.{told, verdictReport}
@@ -59,9 +59,9 @@ sound-calls q sets b s t x y D h =
     }
 
 pub clear-expansion : ClearExpansion
-clear-expansion p e n E sets b I =
-    let N = listed p e n E in
-    subst (λ (q : List ℕ). Clear (verdictReport q sets b)) (sym (N .is)) (no-false-alarm neighbours near (lines p) (N .accepted) sets b I)
+clear-expansion position spacing p e n E sets b I =
+    let N = listed position spacing p e n E in
+    subst (λ (q : List ℕ). Clear (verdictReport q sets b)) (sym (N .is)) (no-false-alarm (layoutOf position spacing) (N .known) (lines p) (N .accepted) sets b I)
 
 -- ---- the claims as `judged_runs` and `judged_expansion` promise them: of calls whose promises are given
 
@@ -69,9 +69,9 @@ pub judged-claim : (q sets : List ℕ) (b : ℕ) (s t : State) (x y : List ℕ) 
     → one ≡ runOutcome q 0 b s x → other ≡ runOutcome q 0 b t y → DrawnTwins sets b s t x y → Clear r → AsJudged r x y one other
 judged-claim q sets b s t x y r one other e f g D h = rw (e, f, g) (sound-calls q sets b s t x y D (rw e at h))
 
-module _ (p out new : List ℕ) (a : Answer) (e : outcome (report a) (new ∷ []) ≡ expandOutcome p out) where
+module _ (position spacing : ℕ) (p out new : List ℕ) (a : Answer) (e : outcome (report a) (new ∷ []) ≡ expandOutcome position spacing p out) where
   answers : CountOrRefusal (report a)
-  answers = rw (ap (λ (o : Outcome). o .answer) e) (expansion-answers neighbours p out)
+  answers = rw (ap (λ (o : Outcome). o .answer) e) (expand-answers position spacing p out)
 
   -- `expand` refused
   module _ (h : NoCount a) where
@@ -92,14 +92,14 @@ module _ (p out new : List ℕ) (a : Answer) (e : outcome (report a) (new ∷ []
 
   -- `expand` wrote n lines
   module _ (n : ℕ) (c : a ≡ Count n) where
-    pub counted-call : outcome (counted n) (new ∷ []) ≡ expandOutcome p out
+    pub counted-call : outcome (counted n) (new ∷ []) ≡ expandOutcome position spacing p out
     counted-call = ap (λ (z : Answer). outcome (report z) (new ∷ [])) (sym c) ∙ e
 
-    expanded : Expanded p new n
+    expanded : Expanded position spacing p new n
     expanded = record { lent = out; call = sym counted-call }
 
     pub listing-fits : lineWidth * n ≤ length new
-    listing-fits = listed p new n expanded .fits
+    listing-fits = listed position spacing p new n expanded .fits
 
-    pub clear-on : (sets : List ℕ) (b : ℕ) (r : Report) → r ≡ verdictReport (listing new n) sets b → Images neighbours sets → Clear r
-    clear-on sets b r w I = rw w (clear-expansion p new n expanded sets b I)
+    pub clear-on : (sets : List ℕ) (b : ℕ) (r : Report) → r ≡ verdictReport (listing new n) sets b → Images (layoutOf position spacing) sets → Clear r
+    clear-on sets b r w I = rw w (clear-expansion position spacing p new n expanded sets b I)

@@ -4,7 +4,7 @@ use mathlib.Core.Path.{_≡_}
 use mathlib.Core.List.{List}
 use Prim.Native.Nat.{ℕ, _*_, _≤_}
 use lib.ListN.{length, getD}
-use Rattle.model.specs.Layouts.{neighbours}
+use Rattle.model.specs.Layouts.{layoutOf}
 use Rattle.model.specs.Limits.{rowWidth}
 use Rattle.model.specs.Answers.{Report, done, refused, Outcome}
 use Rattle.model.specs.Places.{State}
@@ -30,9 +30,10 @@ abbrev pub SoundCalls : Type 0
 SoundCalls = (q sets : List ℕ) (b : ℕ) (s t : State) (x y : List ℕ) → DrawnTwins sets b s t x y → Clear (verdictReport q sets b)
     → AsJudged (verdictReport q sets b) x y (runOutcome q 0 b s x) (runOutcome q 0 b t y)
 
--- no false alarm: of what `expand` wrote, from sets that hold only images
+-- no false alarm: of what `expand` wrote, from sets that hold only images in the same layout
 abbrev pub ClearExpansion : Type 0
-ClearExpansion = (p e : List ℕ) (n : ℕ) → Expanded p e n → (sets : List ℕ) (b : ℕ) → Images neighbours sets → Clear (verdictReport (listing e n) sets b)
+ClearExpansion = (position spacing : ℕ) (p e : List ℕ) (n : ℕ) → Expanded position spacing p e n
+    → (sets : List ℕ) (b : ℕ) → Images (layoutOf position spacing) sets → Clear (verdictReport (listing e n) sets b)
 
 -- ---- what `judged_expansion` answers: the verdict on the lines that `expand` left at the front of e, or what `expand` refused
 

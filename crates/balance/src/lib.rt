@@ -15,8 +15,8 @@ pub struct Twins {
     pub other: Answer,
 }
 
-// Runs a listing from two states. On a listing that `expand` wrote, from the start of a source line, and on the images of two bit states
-// that agree in the public places, the answers are equal and so are the rows written.
+// Runs a listing from two states. On a listing that `expand` wrote, from the start of a source line, and on the images in its layout of two
+// bit states that agree in the public places, the answers are equal and so are the rows written.
 pub fn twin_runs(
     listing: &[u16],
     start: u16,
@@ -45,9 +45,11 @@ pub struct Followed {
 }
 
 // Runs a program from a bit state and a listing from an image, and goes the way back from what the listing left. On a listing that `expand`
-// wrote of the program, from the same source line, and after whole source lines, the listing stands where the program stands, and the way
+// wrote of the program in that layout, from the same source line, and after whole source lines, the listing stands where the program stands, and the way
 // back gives the program's state.
 pub fn follow(
+    position: u8,
+    spacing: u8,
     program: &[u16],
     line: u16,
     steps: u16,
@@ -62,12 +64,12 @@ pub fn follow(
 ) -> Followed
     ensures { λ r. ⌜ outcome (report (r .source)) (now (bits .exit) ∷ now (trace .exit) ∷ []) ≡ runOutcome (now (program .entry)) line steps (now (bits .entry)) (now (trace .entry)) ⌝ }
     ensures { λ r. ⌜ outcome (report (r .expansion)) (now (image .exit) ∷ now (shown .exit) ∷ []) ≡ runOutcome (now (listing .entry)) start span (now (image .entry)) (now (shown .entry)) ⌝ }
-    ensures { λ r. ⌜ outcome (report (r .back)) (now (back .exit) ∷ []) ≡ fromImageOutcome (now (image .exit)) (now (back .entry)) ⌝ }
-    ensures { λ r. ⌜ (Followable (now (program .entry)) line steps (now (bits .entry)) (now (trace .entry)) (now (listing .entry)) start span (now (image .entry)) (now (shown .entry)) (now (back .entry)) → FollowingCalls (now (program .entry)) span (outcome (report (r .source)) (now (bits .exit) ∷ now (trace .exit) ∷ [])) (outcome (report (r .expansion)) (now (image .exit) ∷ now (shown .exit) ∷ [])) × (now (back .exit) ≡ now (bits .exit))) ⌝ }
+    ensures { λ r. ⌜ outcome (report (r .back)) (now (back .exit) ∷ []) ≡ fromImageOutcome position spacing (now (image .exit)) (now (back .entry)) ⌝ }
+    ensures { λ r. ⌜ (Followable position spacing (now (program .entry)) line steps (now (bits .entry)) (now (trace .entry)) (now (listing .entry)) start span (now (image .entry)) (now (shown .entry)) (now (back .entry)) → FollowingCalls position spacing (now (program .entry)) span (outcome (report (r .source)) (now (bits .exit) ∷ now (trace .exit) ∷ [])) (outcome (report (r .expansion)) (now (image .exit) ∷ now (shown .exit) ∷ [])) × (now (back .exit) ≡ now (bits .exit))) ⌝ }
 {
     let source = machine::run(program, line, steps, bits, trace);
     let expansion = machine::run(listing, start, span, image, shown);
-    let decoded = images::from_image(image, back);
+    let decoded = images::from_image(position, spacing, image, back);
     Followed {
         source,
         expansion,

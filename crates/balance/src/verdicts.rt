@@ -3,7 +3,7 @@
 ghost use mathlib.Core.Path.{_≡_};
 ghost use mathlib.Core.List.{[], _∷_};
 ghost use Prim.Native.Nat.{ℕ};
-ghost use Rattle.model.specs.Layouts.{neighbours};
+ghost use Rattle.model.specs.Layouts.{layoutOf};
 ghost use Rattle.model.specs.Answers.{report, counted, outcome};
 ghost use Rattle.model.specs.Expansion.{expandOutcome};
 ghost use Rattle.model.specs.Run.{runOutcome};
@@ -51,19 +51,21 @@ pub struct JudgedExpansion {
     pub verdict: Verdict,
 }
 
-// Expands a program and judges what was written. Where `expand` refuses nothing, from sets that hold only images with one value in each
-// public place, the verdict is balanced or spent.
+// Expands a program and judges what was written. Where `expand` refuses nothing, from sets that hold only images in that layout with one
+// value in each public place, the verdict is balanced or spent.
 pub fn judged_expansion(
+    position: u8,
+    spacing: u8,
     program: &[u16],
     out: &mut [u16],
     sets: &[u8],
     budget: u16,
 ) -> JudgedExpansion
-    ensures { λ r. ⌜ outcome (report (r .expanded)) (now (out .exit) ∷ []) ≡ expandOutcome (now (program .entry)) (now (out .entry)) ⌝ }
+    ensures { λ r. ⌜ outcome (report (r .expanded)) (now (out .exit) ∷ []) ≡ expandOutcome position spacing (now (program .entry)) (now (out .entry)) ⌝ }
     ensures { λ r. ⌜ told (r .verdict) ≡ verdictOn (report (r .expanded)) (now (out .exit)) (now (sets .entry)) budget ⌝ }
-    ensures { λ r. ⌜ ((n : ℕ) → report (r .expanded) ≡ counted n → Images neighbours (now (sets .entry)) → Clear (told (r .verdict))) ⌝ }
+    ensures { λ r. ⌜ ((n : ℕ) → report (r .expanded) ≡ counted n → Images (layoutOf position spacing) (now (sets .entry)) → Clear (told (r .verdict))) ⌝ }
 {
-    let expanded = expander::expand(program, out);
+    let expanded = expander::expand(position, spacing, program, out);
     let Answer::Count(count) = expanded else {
         return JudgedExpansion {
             expanded,

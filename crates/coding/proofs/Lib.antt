@@ -4,3 +4,4 @@ pub mod Faults
 pub mod Programs
 pub mod Codes
 pub mod Shapes
+pub mod SixLayouts

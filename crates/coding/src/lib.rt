@@ -3,11 +3,12 @@
 // whether the numbers are a line. Last the kind of a place, from 'Places of the machine', and the layout and the code of a bit, from
 // 'Code, tables, macros'.
 ghost use mathlib.Core.Path.{_≡_};
+ghost use mathlib.Core.Bool.{true};
 ghost use mathlib.Core.List.{map};
-ghost use Prim.Native.Nat.{_%_, _≤_};
+ghost use Prim.Native.Nat.{_%_, _^_, _≤_, _<_};
 ghost use lib.ListN.{getD};
 ghost use Rattle.model.specs.Answers.{report};
-ghost use Rattle.model.specs.Layouts.{neighbours};
+ghost use Rattle.model.specs.Layouts.{layoutOf, isSix};
 ghost use Rattle.model.specs.Code.{code};
 ghost use Rattle.model.specs.Places.{kind, isPublic, isSensitive};
 ghost use Rattle.model.specs.Lines.{filled, fills, isLiteral};
@@ -424,17 +425,53 @@ pub fn is_sensitive(kind: Kind) -> bool
     }
 }
 
-// The layout of neighbouring bits, the lowest two.
-pub fn neighbours() -> Layout
-    ensures { λ r. ⌜ r ≡ neighbours ⌝ }
+// Whether a position and a spacing name one of the six layouts; where they do not, condition 23 holds.
+pub fn is_six(position: u8, spacing: u8) -> bool
+    ensures { λ r. ⌜ r ≡ isSix position spacing ⌝ }
 {
+    if position < 3 {
+        return spacing < 2;
+    }
+    false
+}
+
+// 2 to the power of a position.
+fn power(position: u8) -> u8
+    requires { ⌜ position < 3 ⌝ }
+    ensures { λ r. ⌜ (r ≡ 2 ^ position) × (r ≤ 4) ⌝ }
+{
+    if position == 0 {
+        return 1;
+    }
+    if position == 1 {
+        return 2;
+    }
+    4
+}
+
+// The layout that a position and a spacing name.
+pub fn layout_of(position: u8, spacing: u8) -> Layout
+    requires { ⌜ isSix position spacing ≡ true ⌝ }
+    ensures { λ r. ⌜ r ≡ layoutOf position spacing ⌝ }
+{
+    let one = power(position);
+    if spacing == 0 {
+        return Layout {
+            one,
+            zero: 2 * one,
+            mask: 3 * one,
+            spaced: false,
+            orr: 16 * one,
+            xor: 32 * one,
+        };
+    }
     Layout {
-        one: 1,
-        zero: 2,
-        mask: 3,
-        spaced: false,
-        orr: 16,
-        xor: 32,
+        one,
+        zero: 4 * one,
+        mask: 5 * one,
+        spaced: true,
+        orr: 16 * one,
+        xor: 32 * one,
     }
 }
 

@@ -68,27 +68,37 @@ pub extern "C" fn dualrail_check(program: &[u16]) -> u64
 }
 
 #[no_mangle]
-pub extern "C" fn dualrail_expand(program: &[u16], out: &mut [u16]) -> u64
-    ensures { λ r. ⌜ r ≡ packed (expandOutcome (now (program .entry)) (now (out .entry)) .answer) ⌝ }
-    ensures { λ _. ⌜ now (out .exit) ∷ [] ≡ expandOutcome (now (program .entry)) (now (out .entry)) .stores ⌝ }
+pub extern "C" fn dualrail_expand(
+    position: u8,
+    spacing: u8,
+    program: &[u16],
+    out: &mut [u16],
+) -> u64
+    ensures { λ r. ⌜ r ≡ packed (expandOutcome position spacing (now (program .entry)) (now (out .entry)) .answer) ⌝ }
+    ensures { λ _. ⌜ now (out .exit) ∷ [] ≡ expandOutcome position spacing (now (program .entry)) (now (out .entry)) .stores ⌝ }
 {
-    pack(expander::expand(program, out))
+    pack(expander::expand(position, spacing, program, out))
 }
 
 #[no_mangle]
-pub extern "C" fn dualrail_to_image(bits: &[u8], image: &mut [u8]) -> u64
-    ensures { λ r. ⌜ r ≡ packed (toImageOutcome (now (bits .entry)) (now (image .entry)) .answer) ⌝ }
-    ensures { λ _. ⌜ now (image .exit) ∷ [] ≡ toImageOutcome (now (bits .entry)) (now (image .entry)) .stores ⌝ }
+pub extern "C" fn dualrail_to_image(position: u8, spacing: u8, bits: &[u8], image: &mut [u8]) -> u64
+    ensures { λ r. ⌜ r ≡ packed (toImageOutcome position spacing (now (bits .entry)) (now (image .entry)) .answer) ⌝ }
+    ensures { λ _. ⌜ now (image .exit) ∷ [] ≡ toImageOutcome position spacing (now (bits .entry)) (now (image .entry)) .stores ⌝ }
 {
-    pack(images::to_image(bits, image))
+    pack(images::to_image(position, spacing, bits, image))
 }
 
 #[no_mangle]
-pub extern "C" fn dualrail_from_image(image: &[u8], bits: &mut [u8]) -> u64
-    ensures { λ r. ⌜ r ≡ packed (fromImageOutcome (now (image .entry)) (now (bits .entry)) .answer) ⌝ }
-    ensures { λ _. ⌜ now (bits .exit) ∷ [] ≡ fromImageOutcome (now (image .entry)) (now (bits .entry)) .stores ⌝ }
+pub extern "C" fn dualrail_from_image(
+    position: u8,
+    spacing: u8,
+    image: &[u8],
+    bits: &mut [u8],
+) -> u64
+    ensures { λ r. ⌜ r ≡ packed (fromImageOutcome position spacing (now (image .entry)) (now (bits .entry)) .answer) ⌝ }
+    ensures { λ _. ⌜ now (bits .exit) ∷ [] ≡ fromImageOutcome position spacing (now (image .entry)) (now (bits .entry)) .stores ⌝ }
 {
-    pack(images::from_image(image, bits))
+    pack(images::from_image(position, spacing, image, bits))
 }
 
 #[no_mangle]

@@ -1,5 +1,5 @@
-// The section Edges of document 01, the walk on sets of request 01, the shift counts of request 02, the public bits of request 03, and an
-// input for every refusal: runs the cases of the file `stdin` beside src/, prints `ok` or `WRONG` and the name of each, and the gate holds
+// The section Edges of document 01, the walk on sets of request 01, the shift counts of request 02, the public bits of request 03, the
+// layouts of request 04, and an input for every refusal: runs the cases of the file `stdin` beside src/, prints `ok` or `WRONG` and the name of each, and the gate holds
 // that to the file `stdout`. The cases are data, read beside the paper, and more cost no proof; notation.rt has how they are written. All here
 // is proved safe and ending; that the answers are right is the contract of what it calls.
 ghost use Prim.Native.Nat.{_≤_};
@@ -17,6 +17,7 @@ use crate::notation::is_number;
 use crate::notation::is_right;
 use crate::notation::is_text;
 use crate::notation::is_verdict;
+use crate::notation::layout;
 use crate::notation::least;
 use crate::notation::put;
 use crate::notation::put_sets;
@@ -89,7 +90,12 @@ fn checks(line: &[u8], program: &[u16]) -> bool {
 // The expansion is compared as text.
 fn expands(line: &[u8], program: &[u16], bytes: &mut [u8], store: &mut [u16]) -> bool {
     let room = size(line, 0, store.len());
-    let answer = expander::expand(program, &mut store[0..room]);
+    let answer = expander::expand(
+        layout(line, 1),
+        layout(line, 2),
+        program,
+        &mut store[0..room],
+    );
     text::write(lines_of(store, answer), bytes);
     is_right(line, answer, bytes, store) & is_text(line, bytes)
 }
@@ -125,16 +131,21 @@ fn all_refuse(
 }
 
 // The image of so many bytes of a state, in so many bytes.
-fn image_of(bits: &[u8], from: usize, image: &mut [u8], to: usize) -> Answer {
+fn image_of(line: &[u8], bits: &[u8], from: usize, image: &mut [u8], to: usize) -> Answer {
     let n = least(from, bits.len());
     let m = least(to, image.len());
-    images::to_image(&bits[0..n], &mut image[0..m])
+    images::to_image(
+        layout(line, 1),
+        layout(line, 2),
+        &bits[0..n],
+        &mut image[0..m],
+    )
 }
 
 fn makes_image(line: &[u8], bits: &[u8], image: &mut [u8]) -> bool {
     let from = size(line, 0, STATE_ROOM);
     let to = size(line, 1, STATE_ROOM);
-    let answer = image_of(bits, from, image, to);
+    let answer = image_of(line, bits, from, image, to);
     is_right(line, answer, image, &[0u16; 0])
 }
 
@@ -146,18 +157,23 @@ fn runs_image(
     image: &mut [u8],
     trace: &mut [u16],
 ) -> bool {
-    image_of(bits, STATE_SIZE, image, STATE_SIZE);
+    image_of(line, bits, STATE_SIZE, image, STATE_SIZE);
     runs(line, program, image, trace)
 }
 
 // The way back from the image of the state, after the changes that stand in the place of a program.
 fn makes_bits(line: &[u8], state: &[u8], bits: &mut [u8]) -> bool {
     let mut image = [0u8; STATE_ROOM];
-    image_of(state, STATE_SIZE, &mut image, STATE_SIZE);
+    image_of(line, state, STATE_SIZE, &mut image, STATE_SIZE);
     put(field(line, PROGRAM), &mut image, &mut [0u16; 0]);
     let from = size(line, 0, STATE_ROOM);
     let to = size(line, 1, bits.len());
-    let answer = images::from_image(&image[0..from], &mut bits[0..to]);
+    let answer = images::from_image(
+        layout(line, 1),
+        layout(line, 2),
+        &image[0..from],
+        &mut bits[0..to],
+    );
     is_right(line, answer, bits, &[0u16; 0])
 }
 

@@ -114,6 +114,11 @@ pub(super) fn least(n: usize, most: usize) -> usize
     if n <= most { n } else { most }
 }
 
+// Number n of the two that stand behind the name of a call, its layout; 0 where there is none.
+pub(super) fn layout(line: &[u8], n: usize) -> u8 {
+    least(decimal(part(field(line, CALL), n, b' ')), 255) as u8
+}
+
 // Number n of a case, as far as there is room for it.
 pub(super) fn size(line: &[u8], n: usize, most: usize) -> usize
     ensures { λ r. ⌜ r ≤ most ⌝ }

@@ -1,4 +1,4 @@
-// 'Code, tables, macros' of document 01, the macros: the mark check (conditions 9 to 16) and the expansion (17) of stored programs.
+// 'Code, tables, macros' of document 01, the macros: the mark check (conditions 9 to 16) and the expansion (23, 17) of stored programs.
 // marks.rt has the conditions of a line, macros.rt the lines that a line becomes, starts.rt the starts of the lines' parts, writing.rt
 // the parts in a lent store.
 ghost use mathlib.Core.Path.{_≡_};
@@ -60,10 +60,16 @@ fn make_expansion(layout: Layout, program: &[u16], out: &mut [u16]) -> Answer
     write_expansion(layout, program, out)
 }
 
-// The expansion of a stored program at the front of a lent store: its count of lines, or the mark check's refusal, then 17. A refusal
-// leaves the store untouched.
-pub fn expand(program: &[u16], out: &mut [u16]) -> Answer
-    ensures { λ r. ⌜ outcome (report r) (now (out .exit) ∷ []) ≡ expandOutcome (now (program .entry)) (now (out .entry)) ⌝ }
+// The expansion of a stored program in the layout of that position and spacing, at the front of a lent store: its count of lines, or 23, the
+// mark check's refusal, then 17. A refusal leaves the store untouched.
+pub fn expand(position: u8, spacing: u8, program: &[u16], out: &mut [u16]) -> Answer
+    ensures { λ r. ⌜ outcome (report r) (now (out .exit) ∷ []) ≡ expandOutcome position spacing (now (program .entry)) (now (out .entry)) ⌝ }
 {
-    make_expansion(coding::neighbours(), program, out)
+    if coding::is_six(position, spacing) {
+        return make_expansion(coding::layout_of(position, spacing), program, out);
+    }
+    Answer::Refused {
+        number: 23,
+        line: 0,
+    }
 }

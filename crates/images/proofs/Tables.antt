@@ -1,86 +1,140 @@
--- The three tables of codes, against the rule of their entries: one test for each whole table; and the page past them.
+-- The table page that is made of the constant tables, against the definition's: one test of all cells in each of the six layouts.
 -- Assumes nothing.
-use mathlib.Core.Path.{_≡_, sym, subst, ap, _∙_}
+use mathlib.Core.Path.{_≡_, refl, sym, ap, _∙_}
 use mathlib.Core.List.{List, [], _∷_}
-use mathlib.Core.Bool.{Bool, true, false, cond}
-use Prim.Native.Nat.{ℕ, _+_, _-_, _≤_, _<_}
-use native.Mathlib.Nat.{zero-add}
+use mathlib.Core.Bool.{Bool, true, false, cond, _&&_}
+use Prim.Native.Nat.{ℕ, zero, suc, _+_, _-_, _*_, _≤_, _<_}
+use native.Mathlib.Nat.{zero-add, mul-le-mul, mul-le-mul-left}
+use native.Mathlib.Numerals.{add-one}
 use native.Mathlib.Omega.{arith}
-use borrow.Author.Tests.{eq-eqb, ne-eqb, lt-ltb, le-ltb}
-use lib.Dec.{T, eqb, ltb, eqb→eq}
-use lib.ListN.{length, getD}
+use borrow.Author.Tests.{lt-ltb, le-ltb}
+use lib.Dec.{T, eqb, ltb, leb, leb→le, ltb→lt, eqb→eq}
+use lib.ListN.{length, getD, replicate, set, length-set}
 use Rattle.model.specs.declared.Layout.{Layout}
+use Rattle.model.specs.Limits.{stateSize}
 use Rattle.model.specs.Layouts.{Known}
 use Rattle.model.specs.Step.{alu}
-use Rattle.model.specs.Code.{code, codeTable, entry, page}
-use Rattle.model.specs.declared.Opcode.{Opcode}
+use Rattle.model.specs.Text.{sameBytes}
+use Rattle.model.specs.Code.{code, entry, page}
 use Rattle.model.specs.declared.Opcode.the-variants.{And, Orr, Xor}
-use Rattle.model.specs.Images.{fixed, fixedRight, every}
-use Rattle.model.proofs.TestLaws.{below}
-use Rattle.model.proofs.Finite.{forLayouts, for-layouts}
-use Rattle.model.proofs.BackLaws.{every-at}
+use Rattle.model.specs.Images.{mapAt, fixed, fixedRight, every}
+use Rattle.model.proofs.TestLaws.{below, is-true, and-both, allBelow, all-below}
+use Rattle.model.proofs.SpellingLaws.{same-bytes}
+use Rattle.model.proofs.Finite.{tableOp, forLayouts, for-layouts}
+use Rattle.model.proofs.PlaceLaws.{mapAt-length, mapAt-getD}
+use Rattle.images.specs.Pages.{entries, copied, pageBytes}
 
-abbrev pub and-table : List ℕ
-and-table = 0 ∷ 0 ∷ 0 ∷ 0 ∷ 0 ∷ 1 ∷ 2 ∷ 0 ∷ 0 ∷ 2 ∷ 2 ∷ 0 ∷ 0 ∷ 0 ∷ 0 ∷ 0 ∷ []
+-- ---- a table's entries are small, so that none overflows when it is scaled
 
-abbrev pub orr-table : List ℕ
-orr-table = 0 ∷ 0 ∷ 0 ∷ 0 ∷ 0 ∷ 1 ∷ 1 ∷ 0 ∷ 0 ∷ 1 ∷ 2 ∷ 0 ∷ 0 ∷ 0 ∷ 0 ∷ 0 ∷ []
+abbrev small : List ℕ → Bool
+small table = every (λ i x. leb x 4) 0 table
 
-abbrev pub xor-table : List ℕ
-xor-table = 0 ∷ 0 ∷ 0 ∷ 0 ∷ 0 ∷ 2 ∷ 1 ∷ 0 ∷ 0 ∷ 1 ∷ 2 ∷ 0 ∷ 0 ∷ 0 ∷ 0 ∷ 0 ∷ []
+small-tested : T (allBelow (λ o. small (entries true (tableOp o)) && small (entries false (tableOp o))) 3)
+unfolding allBelow every entries entry code alu
+small-tested = tt
 
--- an entry by the rule
-abbrev rule : Layout → Opcode → ℕ → ℕ → Bool
-rule L op k x = eqb x (entry L op k)
+small-at : (i : ℕ) (table : List ℕ) → T (every (λ i x. leb x 4) i table) → (k : ℕ) → getD table k 0 ≤ 4
+unfolding every
+small-at i [] h k = omega arith
+small-at i (x ∷ xs) h zero = leb→le x 4 (and-both (leb x 4) (every (λ i x. leb x 4) (suc i) xs) h .0)
+small-at i (x ∷ xs) h (suc k) = small-at (suc i) xs (and-both (leb x 4) (every (λ i x. leb x 4) (suc i) xs) h .1) k
+
+pub entries-small : (o : ℕ) → o < 3 → (spaced : Bool) (table : List ℕ) → table ≡ entries spaced (tableOp o) → (k : ℕ) → getD table k 0 ≤ 4
+entries-small o h spaced table e k = rw e (small-at 0 (entries spaced (tableOp o)) (go spaced) k)
+  where
+    both : T (small (entries true (tableOp o))) × T (small (entries false (tableOp o)))
+    both =
+        and-both (small (entries true (tableOp o))) (small (entries false (tableOp o)))
+        (all-below (λ o. small (entries true (tableOp o)) && small (entries false (tableOp o))) 3 o small-tested h)
+
+    go : (s : Bool) → T (small (entries s (tableOp o)))
+    go true = both .0
+    go false = both .1
+
+pub scaled-small : (u x : ℕ) → u ≤ 4 → x ≤ 4 → u * x ≤ 16
+scaled-small u x h g = mul-le-mul {n₂ = 4} {m₂ = 4} h g
+
+pub entry-within : (at u k : ℕ) → at + 15 * u < 256 → k < 16 → at + u * k < 256
+entry-within at u k h g = let w : u * k ≤ u * 15 = mul-le-mul-left u (omega arith) in omega arith
+
+-- one more entry copied
+pub copied-next : (u : ℕ) (table : List ℕ) (at : ℕ) (old new : List ℕ) (k : ℕ) → new ≡ copied u table at old k
+    → set new (at + u * k) (u * getD table k 0) ≡ copied u table at old (k + 1)
+unfolding copied
+copied-next u table at old new k e = rw (add-one k, e)
+
+pub copied-length : (u : ℕ) (table : List ℕ) (at : ℕ) (old : List ℕ) (k : ℕ) → length (copied u table at old k) ≡ length old
+unfolding copied
+copied-length u table at old zero = refl
+copied-length u table at old (suc k) = length-set (copied u table at old k) (at + u * k) (u * getD table k 0) ∙ copied-length u table at old k
+
+pub copied-all : (u : ℕ) (table : List ℕ) (at : ℕ) (old new : List ℕ) (k : ℕ) → k ≤ 16 → 16 ≤ k → new ≡ copied u table at old k → new ≡ copied u table at old 16
+copied-all u table at old new k h g e = let q : k ≡ 16 = omega arith in e ∙ ap (copied u table at old) q
+
+-- ---- the page
+
+-- as it is made
+abbrev tables : Layout → List ℕ
+tables L =
+    copied (L .one) (entries (L .spaced) Xor) (L .xor) (copied (L .one) (entries (L .spaced) Orr) (L .orr) (copied (L .one) (entries (L .spaced) And) 0 (replicate 256 0) 16) 16) 16
+
+abbrev made : Layout → List ℕ
+made L = set (set (tables L) 240 (L .zero)) 241 (L .one)
+
+-- what is tested: the page, room for the tables, and that the first cell is 0
+abbrev right : Layout → Bool
+right L = sameBytes (made L) (pageBytes L) && leb (L .one) 4 && ltb (L .orr + 15 * L .one) 256 && ltb (L .xor + 15 * L .one) 256 && eqb (page L 0) 0
+
+tested : T (forLayouts right)
+unfolding allBelow copied entries pageBytes mapAt page entry code alu
+tested = tt
 
 module _ (L : Layout) (K : Known L) where
-  -- where the tables begin, which all have 16 cells
-  pub orr-start : L .orr ≡ 16
-  orr-start = eqb→eq (L .orr) 16 (for-layouts (λ L. eqb (L .orr) 16) tt K)
+  found : T (sameBytes (made L) (pageBytes L)) × (L .one ≤ 4) × (L .orr + 15 * L .one < 256) × (L .xor + 15 * L .one < 256) × (page L 0 ≡ 0)
+  found =
+      let a = sameBytes (made L) (pageBytes L) in
+      let b = leb (L .one) 4 in
+      let c = ltb (L .orr + 15 * L .one) 256 in
+      let d = ltb (L .xor + 15 * L .one) 256 in
+      let w4 = and-both (a && b && c && d) (eqb (page L 0) 0) (for-layouts right tested K) in
+      let w3 = and-both (a && b && c) d (w4 .0) in
+      let w2 = and-both (a && b) c (w3 .0) in
+      let w1 = and-both a b (w2 .0) in
+      (w1 .0, leb→le _ _ (w1 .1), ltb→lt _ _ (w2 .1), ltb→lt _ _ (w3 .1), eqb→eq _ _ (w4 .1))
 
-  pub xor-start : L .xor ≡ 32
-  xor-start = eqb→eq (L .xor) 32 (for-layouts (λ L. eqb (L .xor) 32) tt K)
+  page-made : made L ≡ pageBytes L
+  page-made = same-bytes (made L) (pageBytes L) (is-true _ (found .0))
 
-  holds : (op : Opcode) (table : List ℕ) → T (forLayouts (λ L. every (rule L op) 0 table)) → (k : ℕ) → k < length table → getD table k 0 ≡ entry L op k
-  holds op table t k h =
-      let all : T (every (rule L op) 0 table) = for-layouts (λ L. every (rule L op) 0 table) t K in
-      eqb→eq (getD table k 0) (entry L op k) (subst (λ (n : ℕ). T (rule L op n (getD table k 0))) (zero-add k) (every-at (rule L op) 0 table all k h))
+  -- from step to step: the constant tables, the page with the first, with two and with all three of them
+  pub page-steps : (and orr xor one two three : List ℕ) → and ≡ entries (L .spaced) And → orr ≡ entries (L .spaced) Orr → xor ≡ entries (L .spaced) Xor
+      → one ≡ copied (L .one) and 0 (replicate 256 0) 16 → two ≡ copied (L .one) orr (L .orr) one 16 → three ≡ copied (L .one) xor (L .xor) two 16
+      → set (set three 240 (L .zero)) 241 (L .one) ≡ pageBytes L
+  page-steps and orr xor one two three ea eo ex e1 e2 e3 = rw (e3, e2, e1, ea, eo, ex) page-made
 
-  pub and-page : (i : ℕ) → i < L .orr → getD and-table i 0 ≡ page L i
-  unfolding page entry code alu every
-  and-page i h =
-      let q : i - 0 ≡ i = omega arith in
-      rw (lt-ltb i (L .orr) h, q) (holds And and-table tt i (omega (arith, orr-start)))
+  pub one-small : L .one ≤ 4
+  one-small = found .1
 
-  pub orr-page : (i : ℕ) → L .orr ≤ i → i < L .xor → getD orr-table (i - L .orr) 0 ≡ page L i
-  unfolding page entry code alu every
-  orr-page i g h = rw (le-ltb i (L .orr) g, lt-ltb i (L .xor) h) (holds Orr orr-table tt (i - L .orr) (omega (arith, orr-start, xor-start)))
+  pub orr-fits : L .orr + 15 * L .one < 256
+  orr-fits = found .2
 
-  pub xor-page : (i : ℕ) → L .xor ≤ i → i < L .xor + L .orr → getD xor-table (i - L .xor) 0 ≡ page L i
-  unfolding page entry code alu every
-  xor-page i g h =
-      rw (le-ltb i (L .orr) (omega (arith, orr-start, xor-start)), le-ltb i (L .xor) g, lt-ltb i (L .xor + L .orr) h)
-      (holds Xor xor-table tt (i - L .xor) (omega (arith, orr-start)))
-
-  -- past the tables
-  module _ (i : ℕ) (g : L .xor + L .orr ≤ i) where
-    past-page : page L i ≡ cond (eqb i codeTable) (L .zero) (cond (eqb i (codeTable + 1)) (L .one) 0)
-    unfolding page code
-    past-page = rw (le-ltb i (L .orr) (omega arith), le-ltb i (L .xor) (omega arith), le-ltb i (L .xor + L .orr) g)
-
-    pub zero-page : i ≡ codeTable → L .zero ≡ page L i
-    zero-page e = sym (past-page ∙ rw (eq-eqb i codeTable e))
-
-    pub one-page : (i ≡ codeTable → ⊥) → i ≡ codeTable + 1 → L .one ≡ page L i
-    one-page n e = sym (past-page ∙ rw (ne-eqb i codeTable n, eq-eqb i (codeTable + 1) e))
-
-    pub rest-page : (i ≡ codeTable → ⊥) → (i ≡ codeTable + 1 → ⊥) → 0 ≡ page L i
-    rest-page n m = sym (past-page ∙ rw (ne-eqb i codeTable n, ne-eqb i (codeTable + 1) m))
+  pub xor-fits : L .xor + 15 * L .one < 256
+  xor-fits = found .3
 
   -- below the table page nothing but 0 is fixed
   pub low-fixed : (i : ℕ) → i < 288 → 0 ≡ fixed L i
   unfolding fixed
-  low-fixed i h = below i 4 (λ l. rw (lt-ltb i 4 l)) (λ g. let q : i - 288 ≡ 0 = omega arith in rw (le-ltb i 4 g, q) (and-page 0 (omega (arith, orr-start))))
+  low-fixed i h = below i 4 (λ l. rw (lt-ltb i 4 l)) (λ g. let q : i - 288 ≡ 0 = omega arith in rw (le-ltb i 4 g, q) (sym (found .4)))
+
+pub bytes-length : (L : Layout) → length (pageBytes L) ≡ 256
+unfolding pageBytes
+bytes-length L = mapAt-length (λ i x. page L i) 0 (replicate 256 0)
+
+-- in the table page what is fixed is the page
+pub page-fixed : (L : Layout) (l : List ℕ) (i : ℕ) → l ≡ pageBytes L → 288 ≤ i → i < stateSize → getD l (i - 288) 0 ≡ fixed L i
+unfolding fixed pageBytes
+page-fixed L l i e h g =
+    ap (λ (l : List ℕ). getD l (i - 288) 0) e ∙ mapAt-getD (λ i x. page L i) 0 (replicate 256 0) (i - 288) (omega arith)
+    ∙ ap (page L) (zero-add (i - 288)) ∙ sym (rw (le-ltb i 4 (omega arith)))
 
 other : (t u v : Bool) → t ≡ false → v ≡ cond t u v
 other t u v e = rw e

@@ -1,5 +1,5 @@
 -- Request 03: programs accepted before expand as before. Without a public argument every load has the two lines of document 01, so the pieces
--- join to its macros; and 13 apart the conditions are the same. Line by line, then by induction over the program. Assumes nothing.
+-- join to its macros; and 13 apart the conditions are the same. Assumes nothing.
 use mathlib.Core.Path.{_≡_, refl, ap, ap₂, _∙_}
 use mathlib.Core.Bool.{Bool, true, false, not}
 use mathlib.Core.List.{List, [], _∷_, _++_, flatMap}
@@ -23,11 +23,12 @@ use Rattle.model.specs.Lines.{Every}
 use Rattle.model.specs.Stored.{lineCount, lines, programCheck}
 use Rattle.model.specs.Layouts.{neighbours}
 use Rattle.model.specs.Marks.{isAbove, holds10, holds11, holds12, holds14, holds15, holds16, markFault, firstBad, marksOf, markCheck, Accepted}
-use Rattle.model.specs.Expansion.{coded, shifts, scale, combine, fetch, flip, writeBack, lookup, negate, copy, codeBit, load, macro, newTarget, partOf, part, size, start, joined, expand, written, expansionIn, expandOutcome}
-use Rattle.model.specs.Before.{lookupBefore, negateBefore, copyBefore, macroBefore, partBefore, startBefore, expandBefore, holds13, targetsBefore, Never, NoneHeld, AcceptedBefore, AsBefore}
+use Rattle.model.specs.Expansion.{coded, shifts, scale, combine, fetch, flip, writeBack, lookup, negate, copy, codeBit, load, macro, expand, written, expansionIn, expandOutcome}
+use Rattle.model.specs.Before.{lookupBefore, negateBefore, copyBefore, macroBefore, expandBefore, holds13, targetsBefore, Never, NoneHeld, AcceptedBefore, AsBefore}
 use Rattle.model.proofs.StoredLaws.{no-false}
 use Rattle.model.proofs.Acceptance.{mk, nor-T, clear, AllRight, accepted-right}
 use Rattle.model.proofs.Loads.{coded-kind}
+use Rattle.model.proofs.ByMacros.{expand-by}
 
 -- ---- the expansion
 
@@ -47,39 +48,15 @@ macro-before Mul d a b ea eb = refl
 macro-before Beq d a b ea eb = refl
 macro-before Bne d a b ea eb = refl
 
--- under starts that are the same
-module _ (f g : ℕ → ℕ) (same : (i : ℕ) → f i ≡ g i) where
-  target-before : (t : Target) → newTarget f t ≡ newTarget g t
-  unfolding newTarget
-  target-before NoTarget = refl
-  target-before (ToLine t) = ap ToLine (same t)
-
-  line-before : (m : Mark) (op : Opcode) (d a b : Operand) (t : Target) → T (not (holds13 (mk m op d a b t)))
-      → part neighbours f (mk m op d a b t) ≡ partBefore m g (mk m op d a b t)
-  unfolding partOf partBefore holds13
-  line-before Unmarked op d a b t h = ap (λ (u : Target). mk Unmarked op d a b u ∷ []) (target-before t)
-  line-before Marked op d a b t h =
-      let p = nor-T (isPublic (kindOf a)) (isPublic (kindOf b)) h in
-      macro-before op d (coded neighbours a) (coded neighbours b)
-      (ap isPublic (coded-kind neighbours a) ∙ no-false (isPublic (kindOf a)) (p .0)) (ap isPublic (coded-kind neighbours b) ∙ no-false (isPublic (kindOf b)) (p .1))
-
-  part-before : (l : Line) → T (not (holds13 l)) → part neighbours f l ≡ partBefore (l .mark) g l
-  part-before l h = line-before (l .mark) (l .opcode) (l .destination) (l .first) (l .second) (l .target) h
-
-  joined-before : (p : List Line) → Never holds13 p → joined neighbours f p ≡ flatMap (λ l. partBefore (l .mark) g l) p
-  unfolding joined
-  joined-before [] h = refl
-  joined-before (l ∷ p) h = ap₂ (λ (x y : List Line). x ++ y) (part-before l (h .0)) (joined-before p (h .1))
-
-start-before : (p : List Line) → Never holds13 p → (k : ℕ) → start neighbours p k ≡ startBefore p k
-unfolding start startBefore size
-start-before [] h k = refl
-start-before (l ∷ p) h zero = refl
-start-before (l ∷ p) h (suc k) = ap₂ (λ (x y : ℕ). x + y) (ap length (part-before (λ t. t) (λ t. t) (λ i. refl) l (h .0))) (start-before p (h .1) k)
-
 expand-before : (p : List Line) → Never holds13 p → expand neighbours p ≡ expandBefore p
-unfolding expand expandBefore
-expand-before p h = joined-before (start neighbours p) (startBefore p) (start-before p h) p h
+unfolding holds13
+expand-before p h =
+    expand-by macroBefore (λ l. T (not (holds13 l)))
+    (λ op d a b t k.
+    let p = nor-T (isPublic (kindOf a)) (isPublic (kindOf b)) k in
+    macro-before op d (coded neighbours a) (coded neighbours b)
+    (ap isPublic (coded-kind neighbours a) ∙ no-false (isPublic (kindOf a)) (p .0)) (ap isPublic (coded-kind neighbours b) ∙ no-false (isPublic (kindOf b)) (p .1)))
+    p h
 
 -- ---- acceptance
 
@@ -128,7 +105,7 @@ accepted-then p A h =
 
 -- ---- the claim
 
-answer-before : (p out : List ℕ) → programCheck p ≡ counted (lineCount p) → AcceptedBefore (lines p) → expandOutcome p out ≡ written (expandBefore (lines p)) out
+answer-before : (p out : List ℕ) → programCheck p ≡ counted (lineCount p) → AcceptedBefore (lines p) → expandOutcome 0 0 p out ≡ written (expandBefore (lines p)) out
 unfolding expansionIn markCheck Accepted
 answer-before p out c A =
     let w = accepted-now (lines p) A in

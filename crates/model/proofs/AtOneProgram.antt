@@ -1,4 +1,4 @@
--- Both claims of demand 3, computed at one small program for all its sensitive bits: an instance that the general proof does not lean
+-- Both claims of demand 3, computed at one small program for all its sensitive bits in each of the six layouts: an instance that the general proof does not lean
 -- on, and that an edit of a macro breaks where it changes what the macro shows or leaves. Assumes nothing.
 use mathlib.Core.Path.{refl}
 use mathlib.Core.Bool.{Bool, true, false, _&&_}
@@ -21,6 +21,7 @@ use Rattle.model.specs.Run.{run}
 use Rattle.model.specs.Images.{image}
 use Rattle.model.specs.Expansion.{markedLine, move, load, scale, combine, fetch, flip, writeBack, start, expand}
 use Rattle.model.specs.Marks.{Accepted}
+use Rattle.model.proofs.TestLaws.{allBelow}
 use Rattle.model.proofs.Finite.{forLayouts}
 
 -- ---- a program with every macro, where the destination is an argument, with a public literal, public bits and a target behind a macro
@@ -66,5 +67,5 @@ abbrev allClaimed : Layout → Bool
 allClaimed L = claimed L 0 0 && claimed L 0 1 && claimed L 1 0 && claimed L 1 1
 
 pub small-claimed : T (forLayouts allClaimed)
-unfolding run expand image row next after ones load scale combine fetch flip writeBack
+unfolding allBelow run expand image row next after ones load scale combine fetch flip writeBack
 small-claimed = tt

@@ -20,7 +20,8 @@ use Rattle.model.specs.Answers.{Report, done, refused, counted, report, 
 use Rattle.model.specs.Stored.{Parsed, numbers, wrong, lineCount, lines, programCheck}
 use Rattle.model.specs.Text.{newline, past, frontLine, Reading, thenReads, reading}
 use Rattle.model.specs.Marks.{markFault, firstBad, marksOf, markCheck, Accepted}
-use Rattle.model.specs.Expansion.{expand, expansionIn, written}
+use Rattle.model.specs.Layouts.{layoutOf, isSix}
+use Rattle.model.specs.Expansion.{expand, expansionIn, written, expandOutcome}
 use Rattle.model.proofs.StoredLaws.{CheckAnswer, accepts, refuses as turnsDown, check-answer}
 use Rattle.model.proofs.RoundTrip.{reading-zero, reading-suc}
 use Rattle.model.proofs.ExpansionLaws.{mark-accepted}
@@ -89,11 +90,15 @@ unless-answers : (r : Report) (ss : List (List ℕ)) (x : Outcome) → CountOrRe
 unless-answers (done vs) ss x a = a
 unless-answers (refused k l) ss x a = refuses k l refl
 
-pub expansion-answers : (L : Layout) (p out : List ℕ) → CountOrRefusal (expansionIn L p out .answer)
+expansion-answers : (L : Layout) (p out : List ℕ) → CountOrRefusal (expansionIn L p out .answer)
 unfolding expansionIn written
 expansion-answers L p out =
     unless-answers (markCheck p) (out ∷ []) _
     (either-outcome (ltb (lineCount out) (length (expand L (lines p)))) _ _ (refuses 17 0 refl) (counts (length (expand L (lines p))) refl))
+
+pub expand-answers : (position spacing : ℕ) (p out : List ℕ) → CountOrRefusal (expandOutcome position spacing p out .answer)
+expand-answers position spacing p out =
+    either-outcome (isSix position spacing) _ _ (expansion-answers (layoutOf position spacing) p out) (refuses 23 0 refl)
 
 -- a program that the mark check does not refuse
 pub accepted-source : (p vs : List ℕ) → markCheck p ≡ done vs → Accepted (lines p)

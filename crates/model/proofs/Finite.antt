@@ -6,7 +6,7 @@ use mathlib.Core.List.{List, [], _∷_}
 use Prim.Native.Nat.{ℕ, zero, suc, _+_, _*_, _%_, _<_}
 use native.Mathlib.Omega.{arith}
 use borrow.Author.Tests.{ltb-true}
-use lib.Dec.{T, eqb, ltb, eqb→eq}
+use lib.Dec.{T, eqb, ltb, eqb→eq, ltb→lt}
 use lib.Bits.{bitAnd, bitOr, bitXor}
 use lib.Count.{ones}
 use lib.ListN.{getD}
@@ -14,7 +14,7 @@ use Rattle.model.specs.declared.Mark.the-variants.{Marked}
 use Rattle.model.specs.declared.Opcode.{Opcode}
 use Rattle.model.specs.declared.Opcode.the-variants.{Not, And, Orr, Xor}
 use Rattle.model.specs.declared.Layout.{Layout}
-use Rattle.model.specs.Layouts.{neighbours, Known, near}
+use Rattle.model.specs.Layouts.{layoutOf, neighbours, Known, named}
 use Rattle.model.specs.Step.{weight, distance, alu}
 use Rattle.model.specs.Code.{code, page, andTable, orrTable, xorTable, codeTable}
 use Rattle.model.proofs.TestLaws.{and-both, allBelow, all-below}
@@ -110,9 +110,9 @@ abbrev pub agree : List Pair → Bool
 agree [] = true
 agree (p ∷ ps) = eqb (p .left) (p .right) && agree ps
 
--- a test of every layout
+-- a test of each of the six layouts
 abbrev pub forLayouts : (Layout → Bool) → Bool
-forLayouts f = f neighbours
+forLayouts f = allBelow (λ p. allBelow (λ n. f (layoutOf p n)) 2) 3
 
 -- and of every table and both arguments' bits
 abbrev forAll : (Layout → ℕ → ℕ → ℕ → Bool) → Bool
@@ -126,7 +126,13 @@ passed = tt
 
 -- the one place where the layouts are told apart
 pub for-layouts : (f : Layout → Bool) → T (forLayouts f) → {L : Layout} → Known L → T (f L)
-for-layouts f h near = h
+for-layouts f h (named p n w) =
+    let b = and-both (ltb p 3) (ltb n 2) w in
+    all-below (λ n. f (layoutOf p n)) 2 n (all-below (λ p. allBelow (λ n. f (layoutOf p n)) 2) 3 p h (ltb→lt p 3 (b .0))) (ltb→lt n 2 (b .1))
+
+-- that of document 01 is one of the six
+pub near : Known neighbours
+near = named 0 0 tt
 
 for-all : (f : Layout → ℕ → ℕ → ℕ → Bool) → T (forAll f) → {L : Layout} → Known L → (o a b : ℕ) → o < 3 → a < 2 → b < 2 → T (f L o a b)
 for-all f h {L} K o a b ho ha hb =

@@ -29,5 +29,8 @@ pub mod CheckAnswers
 pub mod Edges
 pub mod ShiftCounts
 pub mod PublicBits
+pub mod ByMacros
 pub mod AsBefore
+pub mod EarlierBytes
+pub mod SixLayouts
 pub mod AtOneProgram

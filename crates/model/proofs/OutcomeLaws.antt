@@ -14,20 +14,28 @@ use Rattle.model.specs.Places.{State}
 use Rattle.model.specs.Stored.{lines, lineCount, codes, programCheck}
 use Rattle.model.specs.Run.{run, runLeaves, runOutcome}
 use Rattle.model.specs.declared.Layout.{Layout}
-use Rattle.model.specs.Layouts.{neighbours, Known, near}
+use Rattle.model.specs.Layouts.{layoutOf, isSix, Known, named, inLayout}
 use Rattle.model.specs.Images.{BitState, image, every, bitRight, carried, imageIn}
 use Rattle.model.specs.Expansion.{expand, expansionIn, written}
 use Rattle.model.specs.Marks.{markCheck}
+use Rattle.model.proofs.TestLaws.{holds}
 use Rattle.model.proofs.StoredLaws.{counted-count}
 use Rattle.model.proofs.BackLaws.{bits-right}
 
--- ---- the layout that an entry point hands on
+-- ---- the layout that an entry point names
 
-pub neighbours-known : (L : Layout) → L ≡ neighbours → Known L
-neighbours-known L e = rw e near
+pub inside : (p n : ℕ) (stores : List (List ℕ)) (call : Layout → Outcome) → isSix p n ≡ true → inLayout p n stores call ≡ call (layoutOf p n)
+inside p n stores call e = rw e
 
-pub in-neighbours : (call : Layout → Outcome) (L : Layout) (x : Outcome) → L ≡ neighbours → x ≡ call L → x ≡ call neighbours
-in-neighbours call L x e w = w ∙ ap call e
+module _ (p n : ℕ) (L : Layout) (six : isSix p n ≡ true) (e : L ≡ layoutOf p n) where
+  pub named-known : Known L
+  named-known = rw e (named p n (holds six))
+
+  pub in-layout : (stores : List (List ℕ)) (call : Layout → Outcome) (x : Outcome) → x ≡ call L → x ≡ inLayout p n stores call
+  in-layout stores call x w = w ∙ ap call e ∙ sym (inside p n stores call six)
+
+pub outside : (p n : ℕ) (stores : List (List ℕ)) (call : Layout → Outcome) → isSix p n ≡ false → outcome (refused 23 0) stores ≡ inLayout p n stores call
+outside p n stores call e = rw e
 
 -- ---- one step back
 
@@ -47,6 +55,18 @@ passed-unless : (t : Bool) (x : Outcome) (k l : ℕ) (ss : List (List ℕ)) {vs 
     → cond t (outcome (refused k l) ss) x ≡ outcome (done vs) us → Passed t false x (outcome (done vs) us)
 passed-unless true x k l ss e = absurd (never-done (ap (λ (o : Outcome). o .answer) e))
 passed-unless false x k l ss e = record { test = refl; then = e }
+
+-- no refusal: the layout was one of the six
+pub record Within (p n : ℕ) (call : Layout → Outcome) (y : Outcome) : Type 0 where
+  pub six : isSix p n ≡ true
+  pub known : Known (layoutOf p n)
+  pub then : call (layoutOf p n) ≡ y
+
+pub within : (p n : ℕ) (stores : List (List ℕ)) (call : Layout → Outcome) {vs : List ℕ} {us : List (List ℕ)}
+    → inLayout p n stores call ≡ outcome (done vs) us → Within p n call (outcome (done vs) us)
+within p n stores call e =
+    let w = passed-if (isSix p n) (call (layoutOf p n)) 23 0 stores e in
+    record { six = w .test; known = named p n (holds (w .test)); then = w .then }
 
 pub record Went (r : Report) (x y : Outcome) : Type 0 where
   pub values : List ℕ

@@ -77,22 +77,28 @@ macroBefore Mul d a b = []
 macroBefore Beq d a b = []
 macroBefore Bne d a b = []
 
--- ---- its expansion
+-- ---- its expansion, of any macros that are spelt out
 
-unfoldable pub partBefore : Mark → (ℕ → ℕ) → Line → List Line
-unfolding macroBefore coded
-partBefore Unmarked starts l = retarget starts l ∷ []
-partBefore Marked starts l = macroBefore (l .opcode) (l .destination) (coded neighbours (l .first)) (coded neighbours (l .second))
+abbrev pub Macros : Type 0
+Macros = Opcode → Operand → Operand → Operand → List Line
 
-unfoldable pub startBefore : List Line → ℕ → ℕ
-unfolding partBefore
-startBefore [] i = 0
-startBefore (l ∷ ls) zero = 0
-startBefore (l ∷ ls) (suc i) = length (partBefore (l .mark) (λ t. t) l) + startBefore ls i
+unfoldable pub partBy : Macros → Mark → (ℕ → ℕ) → Line → List Line
+unfolding coded
+partBy macros Unmarked starts l = retarget starts l ∷ []
+partBy macros Marked starts l = macros (l .opcode) (l .destination) (coded neighbours (l .first)) (coded neighbours (l .second))
 
-unfoldable pub expandBefore : List Line → List Line
-unfolding partBefore startBefore flatMap
-expandBefore p = flatMap (λ l. partBefore (l .mark) (startBefore p) l) p
+unfoldable pub startBy : Macros → List Line → ℕ → ℕ
+unfolding partBy
+startBy macros [] i = 0
+startBy macros (l ∷ ls) zero = 0
+startBy macros (l ∷ ls) (suc i) = length (partBy macros (l .mark) (λ t. t) l) + startBy macros ls i
+
+unfoldable pub expandBy : Macros → List Line → List Line
+unfolding partBy startBy flatMap
+expandBy macros p = flatMap (λ l. partBy macros (l .mark) (startBy macros p) l) p
+
+abbrev pub expandBefore : List Line → List Line
+expandBefore p = expandBy macroBefore p
 
 -- ---- its accepted programs
 
@@ -128,4 +134,4 @@ pub record AsBefore : Type 0 where
   pub accepted : (p : List Line) → AcceptedBefore p → Accepted p × Never holds13 p
   pub were-accepted : (p : List Line) → Accepted p → Never holds13 p → AcceptedBefore p
   pub expands : (p : List Line) → Never holds13 p → expand neighbours p ≡ expandBefore p
-  pub answers : (p out : List ℕ) → programCheck p ≡ counted (lineCount p) → AcceptedBefore (lines p) → expandOutcome p out ≡ written (expandBefore (lines p)) out
+  pub answers : (p out : List ℕ) → programCheck p ≡ counted (lineCount p) → AcceptedBefore (lines p) → expandOutcome 0 0 p out ≡ written (expandBefore (lines p)) out

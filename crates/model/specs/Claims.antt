@@ -48,6 +48,6 @@ pub record Follows (L : Layout) (p : List Line) (k n : ℕ) (s : State) : Type 0
 abbrev pub Correspondence : Layout → Type 0
 Correspondence L = (p : List Line) → Accepted p → (k n : ℕ) (s : State) → BitState s → Follows L p k n s
 
--- demand 3 is one claim, of every layout that there is
+-- demand 3 is one claim, of each of the six layouts
 abbrev pub DemandThree : Type 0
 DemandThree = (L : Layout) → Known L → EqualTraces L × Correspondence L

@@ -1,5 +1,5 @@
 -- 'Code, tables, macros', the code and the tables: every sensitive bit is stored as one of a layout's two codes, 01 or 10 where they are
--- neighbours.
+-- the lowest two bits.
 -- Assumes nothing.
 use mathlib.Core.Bool.{cond}
 use Prim.Native.Nat.{ℕ, zero, suc, _+_, _-_, _*_}
@@ -15,11 +15,12 @@ unfoldable pub code : Layout → ℕ → ℕ
 code L zero = L .zero
 code L (suc n) = L .one
 
--- a table's index of two codes: 4 × the first + the second; 2 × the first + the second where the bits are spaced, which no layout yet is
+-- a table's index of two codes: 4 × the first + the second; 2 × the first + the second where the bits are spaced (request 04)
 abbrev pub index : Layout → ℕ → ℕ → ℕ
 index L a b = cond (L .spaced) 2 4 * a + b
 
--- a table's entry i: the code of a op b where i is the index of their codes, else 0
+-- a table's entry i: the code of a op b where i is the index of their codes, else 0. At position p codes are multiples of 2^p, so entries
+-- stand 2^p apart
 unfoldable pub entry : Layout → Opcode → ℕ → ℕ
 unfolding code alu
 entry L op i =

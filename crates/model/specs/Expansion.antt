@@ -19,7 +19,7 @@ use Rattle.model.specs.Answers.{counted, refused, Outcome, outcome, unle
 use Rattle.model.specs.Places.{isPublic, kindOf}
 use Rattle.model.specs.Stored.{codes, lineCount, lines}
 use Rattle.model.specs.Marks.{markCheck}
-use Rattle.model.specs.Layouts.{neighbours}
+use Rattle.model.specs.Layouts.{inLayout}
 use Rattle.model.specs.Code.{code, andTable, orrTable, xorTable, codeTable}
 
 -- a literal of a marked line, coded
@@ -169,6 +169,6 @@ unfoldable pub expansionIn : Layout → List ℕ → List ℕ → Outcome
 unfolding markCheck expand written
 expansionIn L p out = unlessRefused (markCheck p) (out ∷ []) (written (expand L (lines p)) out)
 
--- in the layout of document 01
-abbrev pub expandOutcome : List ℕ → List ℕ → Outcome
-expandOutcome p out = expansionIn neighbours p out
+-- in the layout that is named; 23 before all else
+abbrev pub expandOutcome : ℕ → ℕ → List ℕ → List ℕ → Outcome
+expandOutcome position spacing p out = inLayout position spacing (out ∷ []) (λ L. expansionIn L p out)

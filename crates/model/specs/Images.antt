@@ -12,7 +12,7 @@ use Rattle.model.specs.Answers.{counted, refused, Outcome, outcome}
 use Rattle.model.specs.declared.Kind.{Kind}
 use Rattle.model.specs.declared.Kind.the-variants.{Neither, Public, Sensitive}
 use Rattle.model.specs.Places.{State, kind}
-use Rattle.model.specs.Layouts.{neighbours}
+use Rattle.model.specs.Layouts.{inLayout}
 use Rattle.model.specs.Code.{code, page}
 
 -- by the kind of a place
@@ -97,12 +97,12 @@ imageIn L bits image′ = carried bitRight (image L) bits image′
 abbrev pub bitsIn : Layout → State → State → Outcome
 bitsIn L image′ bits = carried (imageRight L) (back L) image′ bits
 
--- in the layout of document 01
-abbrev pub toImageOutcome : State → State → Outcome
-toImageOutcome bits image′ = imageIn neighbours bits image′
+-- in the layout that is named; 23 before all else
+abbrev pub toImageOutcome : ℕ → ℕ → State → State → Outcome
+toImageOutcome position spacing bits image′ = inLayout position spacing (image′ ∷ []) (λ L. imageIn L bits image′)
 
-abbrev pub fromImageOutcome : State → State → Outcome
-fromImageOutcome image′ bits = bitsIn neighbours image′ bits
+abbrev pub fromImageOutcome : ℕ → ℕ → State → State → Outcome
+fromImageOutcome position spacing image′ bits = inLayout position spacing (bits ∷ []) (λ L. bitsIn L image′ bits)
 
 -- ---- states compared
 

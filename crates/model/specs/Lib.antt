@@ -14,3 +14,4 @@ pub mod Expansion
 pub mod Programs
 pub mod Claims
 pub mod Before
+pub mod Earlier

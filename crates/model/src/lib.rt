@@ -61,7 +61,7 @@ pub enum Target {
 }
 
 // How the code's two bits lie: the codes of 1 and of 0, both bits together, whether a bit lies between the two, and where the tables of
-// orr and xor begin, counted from cell 256, where that of and begins. `neighbours` of specs/Layouts is the one layout so far.
+// orr and xor begin, counted from cell 256, where that of and begins. `layoutOf` of specs/Layouts makes it of a position and a spacing.
 pub struct Layout {
     pub one: u8,
     pub zero: u8,

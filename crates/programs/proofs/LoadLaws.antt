@@ -9,7 +9,8 @@ use borrow.Author.Tests.{lt-ltb, le-ltb}
 use lib.Dec.{ltb}
 use lib.ListN.{length, take, drop, length-append}
 use lib.Seq.{take-at}
-use Rattle.model.specs.Layouts.{neighbours, near}
+use Rattle.model.specs.Layouts.{neighbours}
+use Rattle.model.proofs.Finite.{near}
 use Rattle.model.specs.declared.Answer.{Answer}
 use Rattle.model.specs.declared.Answer.the-variants.{Count}
 use Rattle.model.specs.declared.Line.{Line}
@@ -49,7 +50,7 @@ load-outcome : (input store : List ℕ)
 unfolding loadOutcome
 load-outcome input store = refl
 
-expand-outcome : (p out : List ℕ) → expandOutcome p out
+expand-outcome : (p out : List ℕ) → expandOutcome 0 0 p out
     ≡ unlessRefused (markCheck p) (out ∷ []) (cond (ltb (lineCount out) (length (expand neighbours (lines p)))) (outcome (refused 17 0) (out ∷ [])) (outcome (counted (length (expand neighbours (lines p)))) (atFront (flatMap codes (expand neighbours (lines p))) out ∷ [])))
 unfolding expansionIn written
 expand-outcome p out = refl
@@ -134,7 +135,7 @@ module _ (input store new : List ℕ) (a : Answer) (small : length input ≤ inp
     goes-on : loadAnswer input ≡ andThen (markCheck (readInput input .stored)) (counted (length (expansionOf input)))
     goes-on = then-load ∙ rw counted-n
 
-    expand-loads : (listing : List ℕ) → mostNumbers ≤ length listing → CountOrRefusal (markCheck (readInput input .stored)) → expandOutcome (readInput input .stored) listing ≡ loadOutcome input listing
+    expand-loads : (listing : List ℕ) → mostNumbers ≤ length listing → CountOrRefusal (markCheck (readInput input .stored)) → expandOutcome 0 0 (readInput input .stored) listing ≡ loadOutcome input listing
     expand-loads listing g (refuses k l c) =
         let q : loadAnswer input ≡ refused k l = goes-on ∙ rw c in
         expand-outcome (readInput input .stored) listing ∙ rw c (sym (load-outcome input listing ∙ rw q))
@@ -146,7 +147,7 @@ module _ (input store new : List ℕ) (a : Answer) (small : length input ≤ inp
         let fits : ltb (lineCount listing) (length (expand neighbours (lines p))) ≡ false = le-ltb (lineCount listing) (length (expand neighbours (lines p))) (omega arith) in
         expand-outcome p listing ∙ rw (c, fits) (sym (load-outcome input listing ∙ rw (q, x)))
 
-    pub read-expands : (listing : List ℕ) → mostNumbers ≤ length listing → expandOutcome (take (lineWidth * n) new) listing ≡ loadOutcome input listing
+    pub read-expands : (listing : List ℕ) → mostNumbers ≤ length listing → expandOutcome 0 0 (take (lineWidth * n) new) listing ≡ loadOutcome input listing
     read-expands listing g = rw read-part (expand-loads listing g (mark-answers (readInput input .stored)))
 
 -- ---- what was loaded, and what is printed of it

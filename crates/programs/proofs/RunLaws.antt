@@ -136,7 +136,7 @@ carried-over right over from into h g e = rw (eq-eqb (length from) stateSize h, 
 abbrev pub zeros : State
 zeros = replicate stateSize 0
 
-pub zero-image : (new : State) (r : Report) → outcome r (new ∷ []) ≡ toImageOutcome zeros zeros → new ≡ image neighbours zeros
+pub zero-image : (new : State) (r : Report) → outcome r (new ∷ []) ≡ toImageOutcome 0 0 zeros zeros → new ≡ image neighbours zeros
 zero-image new r e =
     let h : length zeros ≡ stateSize = length-replicate {A = ℕ} stateSize 0 in
     ap first-store (e ∙ carried-over bitRight (image neighbours) zeros zeros h h (zero-bits stateSize 0))
@@ -167,7 +167,7 @@ run-text : (p : List ℕ) → runText p ≡ lineRun (lines p)
 unfolding runText
 run-text p = refl
 
-module _ (p state state′ t new : List ℕ) (a : Answer) (r : Report) (ok : programCheck p ≡ counted (lineCount p)) (made : outcome r (state ∷ []) ≡ toImageOutcome zeros zeros) (room : length t ≡ rowWidth * traceBudget) (e : outcome (report a) (state′ ∷ new ∷ []) ≡ runOutcome p 0 traceBudget state t) where
+module _ (p state state′ t new : List ℕ) (a : Answer) (r : Report) (ok : programCheck p ≡ counted (lineCount p)) (made : outcome r (state ∷ []) ≡ toImageOutcome 0 0 zeros zeros) (room : length t ≡ rowWidth * traceBudget) (e : outcome (report a) (state′ ∷ new ∷ []) ≡ runOutcome p 0 traceBudget state t) where
   abbrev ran : Ran
   ran = run (lines p) traceBudget 0 (image neighbours zeros)
 

@@ -7,7 +7,8 @@ use mathlib.Core.Option.{Option, none, some}
 use native.Mathlib.Omega.{arith}
 use lib.Dec.{ltb, eqb}
 use lib.ListN.{length, getD, getElem?, length-append}
-use Rattle.model.specs.Layouts.{neighbours, near}
+use Rattle.model.specs.Layouts.{neighbours}
+use Rattle.model.proofs.Finite.{near}
 use Rattle.model.specs.declared.Line.{Line}
 use Rattle.model.specs.Limits.{rowWidth}
 use Rattle.model.specs.Answers.{Report, done, refused, counted, outcome, atFront}

@@ -184,7 +184,7 @@ image-clause : (s : State) (i : ℕ) → i < length s → getD (image neighbours
 unfolding image
 image-clause s i h = mapAt-getD (imageAt neighbours) 0 s i h
 
-pub zero-at : (new : State) (r : Report) → outcome r (new ∷ []) ≡ toImageOutcome zeros zeros → (i : ℕ) → i < stateSize → getD new i 0 ≡ imageAt neighbours i 0
+pub zero-at : (new : State) (r : Report) → outcome r (new ∷ []) ≡ toImageOutcome 0 0 zeros zeros → (i : ℕ) → i < stateSize → getD new i 0 ≡ imageAt neighbours i 0
 zero-at new r e i h =
     let z : 0 + i ≡ i = omega arith in
     let l : length zeros ≡ stateSize = length-replicate {A = ℕ} stateSize 0 in

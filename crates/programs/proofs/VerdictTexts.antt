@@ -11,7 +11,8 @@ use lib.ListN.{length, getD, take}
 use Rattle.model.specs.declared.Answer.{Answer}
 use Rattle.model.specs.declared.Answer.the-variants.{Count}
 use Rattle.model.specs.declared.Line.{Line}
-use Rattle.model.specs.Layouts.{neighbours, near}
+use Rattle.model.specs.Layouts.{neighbours}
+use Rattle.model.proofs.Finite.{near}
 use Rattle.model.specs.Limits.{lineWidth, maxLines}
 use Rattle.model.specs.Answers.{Report, done, report, refused, outcome}
 use Rattle.model.specs.Stored.{codes}

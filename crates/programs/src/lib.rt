@@ -78,7 +78,7 @@ fn load(input: &[u8], listing: &mut [u16]) -> Answer
         return got;
     };
     let end = LINE_WIDTH * (n as usize);
-    expander::expand(&store[..end], listing)
+    expander::expand(0, 0, &store[..end], listing)
 }
 
 // Writes the line of a refusal; nothing for another answer.
@@ -120,7 +120,7 @@ fn write_run(program: &[u16], out: &mut [u8]) -> Answer
 {
     let bits = [0u8; STATE_SIZE];
     let mut state = [0u8; STATE_SIZE];
-    images::to_image(&bits, &mut state);
+    images::to_image(0, 0, &bits, &mut state);
     let mut trace = trace_room();
     let ran = machine::run(program, 0, TRACE_BUDGET, &mut state, &mut trace);
     match ran {

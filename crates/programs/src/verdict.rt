@@ -59,7 +59,7 @@ fn put_values(sets: &mut [u8], i: usize, value: u8)
 {
     let at = SET_WIDTH * i;
     if coding::is_sensitive(coding::kind_at(i)) {
-        let one = coding::code_of(coding::neighbours(), 1);
+        let one = coding::code_of(coding::layout_of(0, 0), 1);
         put_bytes(sets, at, 2, one, value);
     } else {
         put_bytes(sets, at, 1, value, 0);
@@ -73,7 +73,7 @@ fn write_sets(sets: &mut [u8])
 {
     let bits = [0u8; STATE_SIZE];
     let mut image = [0u8; STATE_SIZE];
-    images::to_image(&bits, &mut image);
+    images::to_image(0, 0, &bits, &mut image);
     let mut i = 0;
     while i < STATE_SIZE {
         put_values(sets, i, image[i]);

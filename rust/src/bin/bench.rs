@@ -5,7 +5,7 @@ use dualrail::paper::walk::SET;
 use dualrail::paper::{kind_of_place, Kind, MOST_BYTES, MOST_LINES, ROW, SIX, STATE};
 use dualrail::plain::Plain;
 use dualrail::simon;
-use dualrail::{Answer, Dualrail, Library};
+use dualrail::{Answer, Dualrail, Layout, Library};
 use std::hint::black_box;
 use std::time::Instant;
 
@@ -27,7 +27,7 @@ struct Memory {
 impl Memory {
     fn new() -> Memory {
         let mut state = vec![0; STATE];
-        Library.to_image(&simon::load(simon::KEY, simon::PLAINTEXT), &mut state);
+        Library.to_image(Layout::LOWEST, &simon::load(simon::KEY, simon::PLAINTEXT), &mut state);
         Memory { bytes: vec![0; MOST_BYTES], numbers: vec![0; ROW * 65_535], state }
     }
 }
@@ -95,7 +95,7 @@ fn sets_of(values: impl Fn(usize) -> Vec<u8>) -> Vec<u8> {
 /// Both codes in every sensitive place, one value in all others.
 fn image_sets() -> Vec<u8> {
     let mut image = vec![0; STATE];
-    Library.to_image(&[0; STATE], &mut image);
+    Library.to_image(Layout::LOWEST, &[0; STATE], &mut image);
     sets_of(|place| if kind_of_place(place) == Kind::Sensitive { vec![1, 2] } else { vec![image[place]] })
 }
 
@@ -115,80 +115,101 @@ fn worst_step() -> (Vec<u16>, Vec<u8>) {
     (stored("u,and,@0,^r4+0,^r5+0,\n"), sets)
 }
 
-fn main() {
-    println!(
-        "Medians of {REPEATS} repeats in microseconds; both sides in one process, by turns, on the same"
-    );
-    println!("input; buffers are not cleared between repeats, and a run goes on from the state left before.");
-    if cfg!(feature = "no-library") {
-        println!(
-            "Built without the library: the paper's implementation, made for clarity, stands in its place."
-        );
-    }
-    println!("{:44} {:>10} {:>10} {:>8} {:>6}", "", "library", "plain C", "ratio", "goal");
-
+fn runs(source: &[u16], expansion: &[u16]) {
+    let run = |name: &str, program: &[u16]| {
+        measure(name, 1.2, &|on, memory| on.run(program, 0, 65_535, &mut memory.state, &mut memory.numbers));
+    };
     // A loop over indirect operands of all three forms.
     let looping = stored(
         "u,add,r4,r4,#1,\ns,xor,%r4+3,%r4+64,%r4+0,\nu,add,!r4+5,!r4+6,r4,\ns,mov,r16,^r4+7,,\n\
          s,and,%r5+1,%r4+9,r16,\nu,lsr,r6,!r4+100,#3,\nu,beq,,!r5+0,#255,8\ns,not,%r4+77,%r4+76,,\nu,jmp,,,,0\n",
     );
-    measure("run, loop with indirect operands, 65,535", 1.2, &|on, memory| {
-        on.run(&looping, 0, 65_535, &mut memory.state, &mut memory.numbers)
-    });
+    run("run, loop with indirect operands, 65,535", &looping);
     // The same with public places of all three forms in marked lines.
     let public = stored(
         "u,add,r4,r4,#1,\ns,xor,%r4+3,%r4+64,r4,\ns,and,%r5+1,!r4+6,%r4+9,\nu,add,!r4+5,!r4+6,r4,\n\
          s,mov,r16,!r4+7,,\ns,orr,%r4+77,@5,r6,\nu,jmp,,,,0\n",
     );
-    measure("run, loop with public bits, 65,535", 1.2, &|on, memory| {
-        on.run(&public, 0, 65_535, &mut memory.state, &mut memory.numbers)
-    });
-    let (source, expansion) = simon::programs(&Library);
-    measure("run, example cipher, 16,447 steps", 1.2, &|on, memory| {
-        on.run(&source, 0, 65_535, &mut memory.state, &mut memory.numbers)
-    });
-    measure("run, its expansion, 64,823 steps", 1.2, &|on, memory| {
-        on.run(&expansion, 0, 65_535, &mut memory.state, &mut memory.numbers)
-    });
+    run("run, loop with public bits, 65,535", &public);
+    run("run, example cipher, 16,447 steps", source);
+    run("run, its expansion, 64,823 steps", expansion);
+}
 
+/// Gives the library's median for the worst step.
+fn walks(expansion: &[u16]) -> f64 {
     let images = image_sets();
-    measure("walk, its expansion on all images, 64,823", 1.2, &|on, _| on.judge(&expansion, &images, 65_535));
+    measure("walk, its expansion on all images, 64,823", 1.2, &|on, _| on.judge(expansion, &images, 65_535));
     let (worst, sets) = worst_step();
-    let step = measure("walk, one step of 65,536 argument choices", 1.2, &|on, _| on.judge(&worst, &sets, 1));
+    measure("walk, one step of 65,536 argument choices", 1.2, &|on, _| on.judge(&worst, &sets, 1))
+}
 
-    let marked = |count: usize| {
-        let few = [
-            "s,xor,r16,%r4+3,r17,\n",
-            "s,and,@200,#1,r18,\n",
-            "s,orr,%r5+0,%r5+1,%r5+2,\n",
-            "s,xor,r31,r16,r16,\n",
-        ];
-        stored(&few.concat().repeat(count / 4))
-    };
+/// Gives two ratios of the library's medians: jumps to the last line to jumps to the first, and
+/// 1,024 lines to 4 times 256.
+fn expansions() -> [f64; 2] {
+    let few = [
+        "s,xor,r16,%r4+3,r17,\n",
+        "s,and,@200,#1,r18,\n",
+        "s,orr,%r5+0,%r5+1,%r5+2,\n",
+        "s,xor,r31,r16,r16,\n",
+    ];
+    let marked = |count: usize| stored(&few.concat().repeat(count / 4));
     let jumps = |target: usize| stored(&format!("u,jmp,,,,{target}\n").repeat(1_024));
-    let expand = |name: &str, program: Vec<u16>| {
-        measure(name, 1.2, &|on, memory| on.expand(&program, &mut memory.numbers))
+    let in_layout = |layout: Layout, name: &str, program: Vec<u16>| {
+        measure(name, 1.2, &|on, memory| on.expand(layout, &program, &mut memory.numbers))
     };
+    let expand = |name: &str, program: Vec<u16>| in_layout(Layout::LOWEST, name, program);
     expand("expand, 1,024 lines with two public bits", stored(&"s,xor,r16,@5,!r4+3,\n".repeat(1_024)));
     let long = expand("expand, 1,024 marked lines", marked(1_024));
+    for layout in &Layout::ALL[1..] {
+        in_layout(*layout, &format!("expand, 1,024 marked lines, {}", in_words(*layout)), marked(1_024));
+    }
     let short = expand("expand, 256 marked lines", marked(256));
     let jumps_0 = expand("expand, 1,024 jumps to line 0", jumps(0));
     let jumps_end = expand("expand, 1,024 jumps to line 1,024", jumps(1_024));
+    [jumps_end / jumps_0, long / (4.0 * short)]
+}
 
+fn in_words(layout: Layout) -> String {
+    format!("{} at {}", ["neighbours", "spaced"][layout.spacing as usize], layout.position)
+}
+
+/// Images and the way back, many calls at once, as one is soon done.
+fn images() {
+    let bits = simon::load(simon::KEY, simon::PLAINTEXT);
+    for layout in [Layout::LOWEST, Layout::at(2, 1)] {
+        let mut image = vec![0; STATE];
+        Library.to_image(layout, &bits, &mut image);
+        measure(&format!("to_image, 1,000 calls, {}", in_words(layout)), 1.2, &|on, memory| {
+            a_thousand(|| on.to_image(layout, &bits, &mut memory.bytes[..STATE]))
+        });
+        measure(&format!("from_image, 1,000 calls, {}", in_words(layout)), 1.2, &|on, memory| {
+            a_thousand(|| on.from_image(layout, &image, &mut memory.bytes[..STATE]))
+        });
+    }
+}
+
+/// Makes a call a thousand times; gives the last answer.
+fn a_thousand(mut call: impl FnMut() -> Answer) -> Answer {
+    for _ in 1..1_000 {
+        black_box(call());
+    }
+    call()
+}
+
+/// Gives two ratios of the library's medians: reading and writing 1,024 lines to 4 times 256.
+fn texts() -> [f64; 2] {
     // Lines of all forms, short and long ones.
-    let text = |count: usize| {
-        let few = [
-            "s,xor,r16,%r4+3,r17,\n",
-            "u,nop,,,,\n",
-            "u,beq,,!r15+127,#255,12345\n",
-            "u,mov,@99,^r31+255,,\n",
-            "u,jmp,,,,7\n",
-            "s,not,%r4+100,@200,,\n",
-            "u,mul,r9,r10,r11,\n",
-            "u,lsl,!r6+0,#128,@5,\n",
-        ];
-        few.concat().repeat(count / 8)
-    };
+    let few = [
+        "s,xor,r16,%r4+3,r17,\n",
+        "u,nop,,,,\n",
+        "u,beq,,!r15+127,#255,12345\n",
+        "u,mov,@99,^r31+255,,\n",
+        "u,jmp,,,,7\n",
+        "s,not,%r4+100,@200,,\n",
+        "u,mul,r9,r10,r11,\n",
+        "u,lsl,!r6+0,#128,@5,\n",
+    ];
+    let text = |count: usize| few.concat().repeat(count / 8);
     let read = |name: &str, count: usize| {
         let text = text(count);
         measure(name, 1.5, &|on, memory| on.read(text.as_bytes(), &mut memory.numbers))
@@ -203,12 +224,33 @@ fn main() {
     write("write, 16,384 lines", 16_384);
     let write_long = write("write, 1,024 lines", 1_024);
     let write_short = write("write, 256 lines", 256);
+    [read_long / (4.0 * read_short), write_long / (4.0 * write_short)]
+}
+
+fn main() {
+    println!(
+        "Medians of {REPEATS} repeats in microseconds; both sides in one process, by turns, on the same"
+    );
+    println!("input; buffers are not cleared between repeats, and a run goes on from the state left before.");
+    if cfg!(feature = "no-library") {
+        println!(
+            "Built without the library: the paper's implementation, made for clarity, stands in its place."
+        );
+    }
+    println!("{:44} {:>10} {:>10} {:>8} {:>6}", "", "library", "plain C", "ratio", "goal");
+
+    let (source, expansion) = simon::programs(&Library, Layout::LOWEST);
+    runs(&source, &expansion);
+    let step = walks(&expansion);
+    let [jumps, lines] = expansions();
+    images();
+    let [read, write] = texts();
 
     println!("\nThe worst step of a walk found: {:.2} ms.", step / 1000.0);
     println!("\nThe library alone, ratios of its medians:");
     let alone = |name: &str, ratio: f64, goal: f64| println!("{name:66} {}", judged(ratio, goal));
-    alone("expand, 1,024 jumps to line 1,024 against to line 0", jumps_end / jumps_0, 1.1);
-    alone("expand, 1,024 lines against 4 times 256 lines", long / (4.0 * short), 1.2);
-    alone("read, 1,024 lines against 4 times 256 lines", read_long / (4.0 * read_short), 1.2);
-    alone("write, 1,024 lines against 4 times 256 lines", write_long / (4.0 * write_short), 1.2);
+    alone("expand, 1,024 jumps to line 1,024 against to line 0", jumps, 1.1);
+    alone("expand, 1,024 lines against 4 times 256 lines", lines, 1.2);
+    alone("read, 1,024 lines against 4 times 256 lines", read, 1.2);
+    alone("write, 1,024 lines against 4 times 256 lines", write, 1.2);
 }

@@ -2,10 +2,9 @@
 //! example cipher, for two keys, run as it is and expanded.
 
 use dualrail::paper::{ROW, STATE};
-use dualrail::simon::{load, programs, run_to_end, KEY, PLAINTEXT};
-use dualrail::{Dualrail, Library};
+use dualrail::simon::{load, programs, run_to_end, KEY, OTHER_KEY, PLAINTEXT};
+use dualrail::{Dualrail, Layout, Library};
 
-const OTHER_KEY: [u16; 4] = [0x3b62, 0xd4e7, 0x52a9, 0x8c1d];
 const ROWS: usize = 240;
 
 /// The changed bits, the third number of each row.
@@ -15,12 +14,12 @@ fn distances(program: &[u16], mut state: Vec<u8>) -> Vec<u16> {
 
 fn image(bits: Vec<u8>) -> Vec<u8> {
     let mut image = vec![0; STATE];
-    Library.to_image(&bits, &mut image);
+    Library.to_image(Layout::LOWEST, &bits, &mut image);
     image
 }
 
 fn main() {
-    let (source, expansion) = programs(&Library);
+    let (source, expansion) = programs(&Library, Layout::LOWEST);
     let runs = [
         ("source", [KEY, OTHER_KEY].map(|key| distances(&source, load(key, PLAINTEXT)))),
         ("expansion", [KEY, OTHER_KEY].map(|key| distances(&expansion, image(load(key, PLAINTEXT))))),

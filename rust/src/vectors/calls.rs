@@ -3,7 +3,7 @@
 
 use super::parse::{self, Case};
 use super::Tested;
-use crate::answer::Answer;
+use crate::answer::{Answer, Layout};
 use crate::lent::Lent;
 use crate::paper::walk::{MOST_VALUES, SET};
 use crate::paper::{ROW, SIX, STATE};
@@ -36,10 +36,7 @@ pub fn call(tested: &Tested, case: &Case) -> Result<Called, String> {
         other => return Err(format!("the call {other:?} is unknown")),
     };
     case.only(keys)?;
-    match case.optional("layout")? {
-        None | Some("0 0") => call(tested, case),
-        Some(layout) => Err(format!("the layout {layout:?} is not there yet")),
-    }
+    call(tested, case)
 }
 
 // ---------------------------------------------------------------- answers
@@ -146,6 +143,17 @@ fn program(tested: &Tested, case: &Case) -> Result<Memory<u16>, String> {
     }
 }
 
+/// The layout handed over, right or not.
+fn layout(case: &Case) -> Result<Layout, String> {
+    let Some(value) = case.optional("layout")? else {
+        return Ok(Layout::LOWEST);
+    };
+    match parse::list(value)?[..] {
+        [position, spacing] => Ok(Layout::at(position, spacing)),
+        _ => Err("`layout` is not two numbers".to_string()),
+    }
+}
+
 // ---------------------------------------------------------------- calls
 
 fn read(tested: &Tested, case: &Case) -> Result<Called, String> {
@@ -175,7 +183,7 @@ fn expand(tested: &Tested, case: &Case) -> Result<Called, String> {
     let mut out = number_store(case)?;
     let text = case.text("out")?.unwrap_or_default();
     out.expect(&stored_lines(tested, &text)?)?;
-    let answer = tested.library.expand(program.part(), out.part_mut());
+    let answer = tested.library.expand(layout(case)?, program.part(), out.part_mut());
     called(case, answer, program.fault() + &out.fault())
 }
 
@@ -185,9 +193,10 @@ fn image(tested: &Tested, case: &Case) -> Result<Called, String> {
     if case.optional("bytes")?.is_some() {
         lent.expect(&case.bytes("bytes")?)?;
     }
+    let layout = layout(case)?;
     let answer = match case.one("call")? {
-        "to-image" => tested.library.to_image(state.part(), lent.part_mut()),
-        _ => tested.library.from_image(state.part(), lent.part_mut()),
+        "to-image" => tested.library.to_image(layout, state.part(), lent.part_mut()),
+        _ => tested.library.from_image(layout, state.part(), lent.part_mut()),
     };
     called(case, answer, state.fault() + &lent.fault())
 }

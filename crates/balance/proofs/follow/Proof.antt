@@ -30,7 +30,7 @@ same-length-5 : tie.Need-same-length-5
 same-length-5 c = search needs
 
 returns : tie.Need-returns
-returns c = let e = c .before .before .before .before .before .before .before .before .before .before .before .before .before .before .before .before .run .ensures in let f = c .before .before .before .before .before .before .before .before .before .run2 .ensures in let g = c .before .before .from-image .ensures in (e, (f, (g, λ W. follow-claim _ _ _ _ _ _ _ _ _ _ _ _ _ _ _ _ _ _ _ e f g W)))
+returns c = let e = c .before .before .before .before .before .before .before .before .before .before .before .before .before .before .before .before .run .ensures in let f = c .before .before .before .before .before .before .before .before .before .run2 .ensures in let g = c .before .before .from-image .ensures in (e, (f, (g, λ W. follow-claim _ _ _ _ _ _ _ _ _ _ _ _ _ _ _ _ _ _ _ _ _ e f g W)))
 
 pub follow-spec : {M : Type 1} → statement M
 follow-spec =

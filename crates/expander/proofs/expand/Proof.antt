@@ -1,24 +1,41 @@
--- `expander::expand` meets its contract. The body in the layout handed on. Assumes nothing.
+-- `expander::expand` meets its contract. The body in the layout that is named, or 23. Assumes nothing.
+use mathlib.Core.Path.{sym, _∙_}
+use mathlib.Core.List.{[], _∷_}
 use Rattle.model.specs.Expansion.{expansionIn}
-use Rattle.model.proofs.OutcomeLaws.{neighbours-known, in-neighbours}
+use Rattle.model.proofs.OutcomeLaws.{named-known, in-layout, outside}
 use borrow.Author.Needs.{needs}
 use Rattle.expander.proofs.expand.Statement.{statement}
 use Rattle.expander.proofs.expand.Tie as tie
 
-neighbours-requires : tie.Need-neighbours-requires
-neighbours-requires c κs = search needs
+is-six-requires : tie.Need-is-six-requires
+is-six-requires c κs = search needs
+
+layout-of-requires : tie.Need-layout-of-requires
+layout-of-requires c κs = sym (c .before .is-six .ensures) ∙ c .if1 .taken
 
 make-expansion-requires : tie.Need-make-expansion-requires
-make-expansion-requires c κs = neighbours-known _ (c .before .neighbours .ensures)
+make-expansion-requires c κs =
+    let named = c .before in
+    let six = named .before in
+    let s = six .before .before .before .before in
+    named-known (s .args .position) (s .args .spacing) _ (sym (six .before .is-six .ensures) ∙ six .if1 .taken) (named .layout-of .ensures)
 
 same-length : tie.Need-same-length
 same-length c = search needs
 
 returns : tie.Need-returns
 returns c =
-    let n = c .before .before .before .before in
-    let s = n .before .before .before in
-    in-neighbours (λ L. expansionIn L (s .args .program .now) (s .args .out .now)) _ _ (n .neighbours .ensures) (c .before .before .make-expansion .ensures)
+    let named = c .before .before .before .before in
+    let six = named .before in
+    let s = six .before .before .before .before in
+    in-layout (s .args .position) (s .args .spacing) _ (sym (six .before .is-six .ensures) ∙ six .if1 .taken) (named .layout-of .ensures)
+    (s .args .out .now ∷ []) (λ L. expansionIn L (s .args .program .now) (s .args .out .now)) _ (c .before .before .make-expansion .ensures)
+
+returns-2 : tie.Need-returns-2
+returns-2 c =
+    let s = c .before .before .before .before in
+    outside (s .args .position) (s .args .spacing) (s .args .out .now ∷ []) (λ L. expansionIn L (s .args .program .now) (s .args .out .now))
+    (sym (c .before .is-six .ensures) ∙ c .if1 .left)
 
 pub expand-spec : {M : Type 1} → statement M
-expand-spec = tie.close (tie.spec neighbours-requires make-expansion-requires same-length returns)
+expand-spec = tie.close (tie.spec is-six-requires layout-of-requires make-expansion-requires same-length returns returns-2)

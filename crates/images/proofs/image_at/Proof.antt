@@ -1,5 +1,8 @@
 -- `images::image_at` meets its contract. By the kind of the place. Assumes nothing.
+use mathlib.Core.Path.{ap, _∙_}
+use lib.ListN.{length}
 use Rattle.model.specs.Images.{imageAt}
+use Rattle.images.proofs.Tables.{bytes-length}
 use borrow.Author.Needs.{needs}
 use Rattle.images.proofs.image_at.Statement.{statement}
 use Rattle.images.proofs.image_at.Tie as tie
@@ -11,7 +14,7 @@ enum-told : tie.Need-enum-told
 enum-told c = search needs
 
 fixed-at-requires : tie.Need-fixed-at-requires
-fixed-at-requires c κs = search needs
+fixed-at-requires c κs = (c .before .before .before .pre .2, ap length (c .before .before .before .pre .1) ∙ bytes-length _)
 
 enum-told-2 : tie.Need-enum-told-2
 enum-told-2 c = search needs
@@ -24,7 +27,7 @@ code-of-requires c κs = search needs
 
 returns : tie.Need-returns
 unfolding imageAt
-returns c = rw (← c .before .before .before .kind-at .ensures, c .before .enum-told .given .1) (c .fixed-at .ensures)
+returns c = rw (← c .before .before .before .kind-at .ensures, c .before .enum-told .given .1) (c .fixed-at .ensures _ (c .before .before .before .before .pre .0) (c .before .before .before .before .pre .1))
 
 returns-2 : tie.Need-returns-2
 unfolding imageAt

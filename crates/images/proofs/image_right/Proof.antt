@@ -1,5 +1,8 @@
 -- `images::image_right` meets its contract. By the kind of the place. Assumes nothing.
+use mathlib.Core.Path.{ap, _∙_}
+use lib.ListN.{length}
 use Rattle.model.specs.Images.{imageRight}
+use Rattle.images.proofs.Tables.{bytes-length}
 use borrow.Author.Needs.{needs}
 use Rattle.images.proofs.image_right.Statement.{statement}
 use Rattle.images.proofs.image_right.Tie as tie
@@ -11,7 +14,7 @@ enum-told : tie.Need-enum-told
 enum-told c = search needs
 
 is-fixed-requires : tie.Need-is-fixed-requires
-is-fixed-requires c κs = search needs
+is-fixed-requires c κs = (c .before .before .before .pre .2, ap length (c .before .before .before .pre .1) ∙ bytes-length _)
 
 enum-told-2 : tie.Need-enum-told-2
 enum-told-2 c = search needs
@@ -24,7 +27,7 @@ is-code-requires c κs = search needs
 
 returns : tie.Need-returns
 unfolding imageRight
-returns c = rw (← c .before .before .before .kind-at .ensures, c .before .enum-told .given .1) (c .is-fixed .ensures)
+returns c = rw (← c .before .before .before .kind-at .ensures, c .before .enum-told .given .1) (c .is-fixed .ensures _ (c .before .before .before .before .pre .0) (c .before .before .before .before .pre .1))
 
 returns-2 : tie.Need-returns-2
 unfolding imageRight

@@ -18,18 +18,21 @@ returns-2 c =
 bits-right-requires : tie.Need-bits-right-requires
 bits-right-requires c κs = search needs
 
+page-of-requires : tie.Need-page-of-requires
+page-of-requires c κs = search needs
+
 put-image-requires : tie.Need-put-image-requires
 put-image-requires c κs = search needs
 
-cast-t10 : tie.Need-cast-t10
-cast-t10 c = search needs
+cast-t13 : tie.Need-cast-t13
+cast-t13 c = search needs
 
 same-length : tie.Need-same-length
 same-length c = search needs
 
 returns-3 : tie.Need-returns-3
 returns-3 c =
-    let d = c .before .before .before .before in
+    let d = c .before .before .before .before .before .before in
     let s = d .before .before .before .before .before .before in
     goes-over bitRight (image (s .args .layout)) (s .args .bits .now) (s .args .image .now) _ _ (d .before .before .before .if1 .left) (d .before .before .if2 .left) (d .before .bits-right .ensures) (d .if3 .taken) (c .before .before .put-image .ensures)
 
@@ -45,8 +48,9 @@ make-image-spec =
     returns
     returns-2
     bits-right-requires
+    page-of-requires
     put-image-requires
-    cast-t10
+    cast-t13
     same-length
     returns-3
     returns-4)

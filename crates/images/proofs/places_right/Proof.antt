@@ -11,10 +11,10 @@ use Rattle.images.proofs.places_right.Statement.{statement}
 use Rattle.images.proofs.places_right.Tie as tie
 
 abbrev Inv-loop : tie.InvT-loop
-Inv-loop layout image i₀ i = (i ≤ length image) × (every (imageRight layout) i (drop i image) ≡ every (imageRight layout) 0 image)
+Inv-loop layout page image i₀ i = (i ≤ length image) × (every (imageRight layout) i (drop i image) ≡ every (imageRight layout) 0 image)
 
 abbrev μ-loop : tie.MeasureT-loop
-μ-loop layout image i₀ i = length image - i
+μ-loop layout page image i₀ i = length image - i
 
 loop-holds : tie.Need-loop-holds Inv-loop μ-loop
 loop-holds c = (omega arith, refl)

@@ -11,10 +11,10 @@ use Rattle.images.proofs.put_image.Statement.{statement}
 use Rattle.images.proofs.put_image.Tie as tie
 
 abbrev Inv-loop : tie.InvT-loop
-Inv-loop layout bits image₀ i₀ image i = (i ≤ length bits) × (length image ≡ length image₀) × (image ≡ front (mapAt (imageAt layout) 0 bits) image₀ i)
+Inv-loop layout page bits image₀ i₀ image i = (i ≤ length bits) × (length image ≡ length image₀) × (image ≡ front (mapAt (imageAt layout) 0 bits) image₀ i)
 
 abbrev μ-loop : tie.MeasureT-loop
-μ-loop layout bits image₀ i₀ image i = length bits - i
+μ-loop layout page bits image₀ i₀ image i = length bits - i
 
 loop-holds : tie.Need-loop-holds Inv-loop μ-loop
 loop-holds c = (omega arith, refl, refl)
@@ -47,7 +47,7 @@ unfolding image
 returns c =
     let s = c .before .before .before .before in
     let a = s .args in
-    map-all (imageAt (a .layout)) (a .bits .now) (a .image .now) _ _ (c .before .loop .inv .2) (c .loop-test .left) (s .pre .1)
+    map-all (imageAt (a .layout)) (a .bits .now) (a .image .now) _ _ (c .before .loop .inv .2) (c .loop-test .left) (omega (arith, s .pre .2, s .pre .3))
 
 pub put-image-spec : {M : Type 1} → statement M
 put-image-spec =

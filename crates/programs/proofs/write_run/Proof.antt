@@ -43,7 +43,20 @@ slice-aggregate-write-ended-2 : tie.Need-slice-aggregate-write-ended-2
 slice-aggregate-write-ended-2 c = search needs
 
 write-ended-requires : tie.Need-write-ended-requires
-write-ended-requires c κs = (omega (arith, c .before .before .before .before .before .before .before .before .run .kept .1 .1 .1 .1 .0, c .before .before .before .before .before .before .before .before .before .before .before .trace-room .ensures), steps-fit (c .before .before .before .before .before .before .before .before .before .before .before .before .before .before .before .before .before .before .args .program .now) (c .before .before .before .before .before .before .before .before .before .before .before .before .before .to-image .last .1 .0) (c .before .before .before .before .before .before .before .before .run .last .1 .1 .1 .0) (c .before .before .before .before .before .before .before .before .before .before .before .trace-room .result) (c .before .before .before .before .before .before .before .before .run .last .1 .1 .1 .1 .0) (c .before .before .before .before .before .before .before .before .run .result) (report (c .before .before .before .before .before .before .before .before .before .before .before .before .before .to-image .result)) (c .before .before .before .before .before .before .before .before .before .before .before .before .before .before .before .before .before .before .pre) (c .before .before .before .before .before .before .before .before .before .before .before .before .before .to-image .ensures) (c .before .before .before .before .before .before .before .before .before .before .before .trace-room .ensures) (c .before .before .before .before .before .before .before .before .run .ensures) (endWord false) (c .before .before .before .before .ran .given .0 .1 .0) (ending _ _ false (c .before .before .before .before .ran .given .0 .0) (c .before .before .before .before .ran .given .0 .1 .0) (sym (ap report (c .before .before .before .before .ran .given .1)) ∙ answered (c .before .before .before .before .before .before .before .before .before .before .before .before .before .before .before .before .before .before .args .program .now) (c .before .before .before .before .before .before .before .before .before .before .before .before .before .to-image .last .1 .0) (c .before .before .before .before .before .before .before .before .run .last .1 .1 .1 .0) (c .before .before .before .before .before .before .before .before .before .before .before .trace-room .result) (c .before .before .before .before .before .before .before .before .run .last .1 .1 .1 .1 .0) (c .before .before .before .before .before .before .before .before .run .result) (report (c .before .before .before .before .before .before .before .before .before .before .before .before .before .to-image .result)) (c .before .before .before .before .before .before .before .before .before .before .before .before .before .before .before .before .before .before .pre) (c .before .before .before .before .before .before .before .before .before .before .before .before .before .to-image .ensures) (c .before .before .before .before .before .before .before .before .before .before .before .trace-room .ensures) (c .before .before .before .before .before .before .before .before .run .ensures))), omega arith)
+write-ended-requires c κs =
+    let r = c .before .before .before .before .before .before .before .before in
+    let t = r .before .before .before in
+    let i = t .before .before in
+    let s = i .before .before .before .before .before in
+    let image = i .to-image .last .1 .1 .1 .0 in
+    let state = r .run .last .1 .1 .1 .0 in
+    let trace = r .run .last .1 .1 .1 .1 .0 in
+    let w = c .before .before .before .before .ran .given in (
+      omega (arith, r .run .kept .1 .1 .1 .1 .0, t .trace-room .ensures),
+      steps-fit (s .args .program .now) image state (t .trace-room .result) trace (r .run .result) (report (i .to-image .result)) (s .pre) (i .to-image .ensures) (t .trace-room .ensures) (r .run .ensures)
+          (endWord false) (w .0 .1 .0) (ending _ _ false (w .0 .0) (w .0 .1 .0) (sym (ap report (w .1)) ∙ answered (s .args .program .now) image state (t .trace-room .result) trace (r .run .result) (report (i .to-image .result)) (s .pre) (i .to-image .ensures) (t .trace-room .ensures) (r .run .ensures))),
+      omega arith,
+    )
 
 enum-known-ran-2 : tie.Need-enum-known-ran-2
 enum-known-ran-2 c = search needs
@@ -55,7 +68,20 @@ slice-aggregate-write-ended-4 : tie.Need-slice-aggregate-write-ended-4
 slice-aggregate-write-ended-4 c = search needs
 
 write-ended-requires-2 : tie.Need-write-ended-requires-2
-write-ended-requires-2 c κs = (omega (arith, c .before .before .before .before .before .before .before .before .run .kept .1 .1 .1 .1 .0, c .before .before .before .before .before .before .before .before .before .before .before .trace-room .ensures), steps-fit (c .before .before .before .before .before .before .before .before .before .before .before .before .before .before .before .before .before .before .args .program .now) (c .before .before .before .before .before .before .before .before .before .before .before .before .before .to-image .last .1 .0) (c .before .before .before .before .before .before .before .before .run .last .1 .1 .1 .0) (c .before .before .before .before .before .before .before .before .before .before .before .trace-room .result) (c .before .before .before .before .before .before .before .before .run .last .1 .1 .1 .1 .0) (c .before .before .before .before .before .before .before .before .run .result) (report (c .before .before .before .before .before .before .before .before .before .before .before .before .before .to-image .result)) (c .before .before .before .before .before .before .before .before .before .before .before .before .before .before .before .before .before .before .pre) (c .before .before .before .before .before .before .before .before .before .before .before .before .before .to-image .ensures) (c .before .before .before .before .before .before .before .before .before .before .before .trace-room .ensures) (c .before .before .before .before .before .before .before .before .run .ensures) (endWord true) (c .before .before .before .before .ran2 .given .0 .1 .0) (ending _ _ true (c .before .before .before .before .ran2 .given .0 .0) (c .before .before .before .before .ran2 .given .0 .1 .0) (sym (ap report (c .before .before .before .before .ran2 .given .1)) ∙ answered (c .before .before .before .before .before .before .before .before .before .before .before .before .before .before .before .before .before .before .args .program .now) (c .before .before .before .before .before .before .before .before .before .before .before .before .before .to-image .last .1 .0) (c .before .before .before .before .before .before .before .before .run .last .1 .1 .1 .0) (c .before .before .before .before .before .before .before .before .before .before .before .trace-room .result) (c .before .before .before .before .before .before .before .before .run .last .1 .1 .1 .1 .0) (c .before .before .before .before .before .before .before .before .run .result) (report (c .before .before .before .before .before .before .before .before .before .before .before .before .before .to-image .result)) (c .before .before .before .before .before .before .before .before .before .before .before .before .before .before .before .before .before .before .pre) (c .before .before .before .before .before .before .before .before .before .before .before .before .before .to-image .ensures) (c .before .before .before .before .before .before .before .before .before .before .before .trace-room .ensures) (c .before .before .before .before .before .before .before .before .run .ensures))), omega arith)
+write-ended-requires-2 c κs =
+    let r = c .before .before .before .before .before .before .before .before in
+    let t = r .before .before .before in
+    let i = t .before .before in
+    let s = i .before .before .before .before .before in
+    let image = i .to-image .last .1 .1 .1 .0 in
+    let state = r .run .last .1 .1 .1 .0 in
+    let trace = r .run .last .1 .1 .1 .1 .0 in
+    let w = c .before .before .before .before .ran2 .given in (
+      omega (arith, r .run .kept .1 .1 .1 .1 .0, t .trace-room .ensures),
+      steps-fit (s .args .program .now) image state (t .trace-room .result) trace (r .run .result) (report (i .to-image .result)) (s .pre) (i .to-image .ensures) (t .trace-room .ensures) (r .run .ensures)
+          (endWord true) (w .0 .1 .0) (ending _ _ true (w .0 .0) (w .0 .1 .0) (sym (ap report (w .1)) ∙ answered (s .args .program .now) image state (t .trace-room .result) trace (r .run .result) (report (i .to-image .result)) (s .pre) (i .to-image .ensures) (t .trace-room .ensures) (r .run .ensures))),
+      omega arith,
+    )
 
 enum-told : tie.Need-enum-told
 enum-told c = search needs
@@ -67,19 +93,57 @@ same-length : tie.Need-same-length
 same-length c = search needs
 
 returns : tie.Need-returns
-returns c = c .before .before .write-ended .ensures ∙ ap (λ (t : List ℕ). fitted t (c .before .before .before .before .before .before .before .before .before .before .before .before .before .before .before .before .before .before .before .before .before .args .out .now)) (ended-is (c .before .before .before .before .before .before .before .before .before .before .before .before .before .before .before .before .before .before .before .before .before .args .program .now) (c .before .before .before .before .before .before .before .before .before .before .before .before .before .before .before .before .to-image .last .1 .0) (c .before .before .before .before .before .before .before .before .before .before .before .run .last .1 .1 .1 .0) (c .before .before .before .before .before .before .before .before .before .before .before .before .before .before .trace-room .result) (c .before .before .before .before .before .before .before .before .before .before .before .run .last .1 .1 .1 .1 .0) (c .before .before .before .before .before .before .before .before .before .before .before .run .result) (report (c .before .before .before .before .before .before .before .before .before .before .before .before .before .before .before .before .to-image .result)) (c .before .before .before .before .before .before .before .before .before .before .before .before .before .before .before .before .before .before .before .before .before .pre) (c .before .before .before .before .before .before .before .before .before .before .before .before .before .before .before .before .to-image .ensures) (c .before .before .before .before .before .before .before .before .before .before .before .before .before .before .trace-room .ensures) (c .before .before .before .before .before .before .before .before .before .before .before .run .ensures) (endWord false) (c .before .before .before .before .before .before .before .ran .given .0 .1 .0) (ending _ _ false (c .before .before .before .before .before .before .before .ran .given .0 .0) (c .before .before .before .before .before .before .before .ran .given .0 .1 .0) (sym (ap report (c .before .before .before .before .before .before .before .ran .given .1)) ∙ answered (c .before .before .before .before .before .before .before .before .before .before .before .before .before .before .before .before .before .before .before .before .before .args .program .now) (c .before .before .before .before .before .before .before .before .before .before .before .before .before .before .before .before .to-image .last .1 .0) (c .before .before .before .before .before .before .before .before .before .before .before .run .last .1 .1 .1 .0) (c .before .before .before .before .before .before .before .before .before .before .before .before .before .before .trace-room .result) (c .before .before .before .before .before .before .before .before .before .before .before .run .last .1 .1 .1 .1 .0) (c .before .before .before .before .before .before .before .before .before .before .before .run .result) (report (c .before .before .before .before .before .before .before .before .before .before .before .before .before .before .before .before .to-image .result)) (c .before .before .before .before .before .before .before .before .before .before .before .before .before .before .before .before .before .before .before .before .before .pre) (c .before .before .before .before .before .before .before .before .before .before .before .before .before .before .before .before .to-image .ensures) (c .before .before .before .before .before .before .before .before .before .before .before .before .before .before .trace-room .ensures) (c .before .before .before .before .before .before .before .before .before .before .before .run .ensures))))
+returns c =
+    let r = c .before .before .before .before .before .before .before .before .before .before .before in
+    let t = r .before .before .before in
+    let i = t .before .before in
+    let s = i .before .before .before .before .before in
+    let image = i .to-image .last .1 .1 .1 .0 in
+    let state = r .run .last .1 .1 .1 .0 in
+    let trace = r .run .last .1 .1 .1 .1 .0 in
+    let w = c .before .before .before .before .before .before .before .ran .given in
+    c .before .before .write-ended .ensures ∙ ap (λ (x : List ℕ). fitted x (s .args .out .now)) (ended-is (s .args .program .now) image state (t .trace-room .result) trace (r .run .result) (report (i .to-image .result)) (s .pre) (i .to-image .ensures) (t .trace-room .ensures) (r .run .ensures)
+    (endWord false) (w .0 .1 .0) (ending _ _ false (w .0 .0) (w .0 .1 .0) (sym (ap report (w .1)) ∙ answered (s .args .program .now) image state (t .trace-room .result) trace (r .run .result) (report (i .to-image .result)) (s .pre) (i .to-image .ensures) (t .trace-room .ensures) (r .run .ensures))))
 
 same-length-2 : tie.Need-same-length-2
 same-length-2 c = search needs
 
 returns-2 : tie.Need-returns-2
-returns-2 c = c .before .before .write-ended2 .ensures ∙ ap (λ (t : List ℕ). fitted t (c .before .before .before .before .before .before .before .before .before .before .before .before .before .before .before .before .before .before .before .before .before .args .out .now)) (ended-is (c .before .before .before .before .before .before .before .before .before .before .before .before .before .before .before .before .before .before .before .before .before .args .program .now) (c .before .before .before .before .before .before .before .before .before .before .before .before .before .before .before .before .to-image .last .1 .0) (c .before .before .before .before .before .before .before .before .before .before .before .run .last .1 .1 .1 .0) (c .before .before .before .before .before .before .before .before .before .before .before .before .before .before .trace-room .result) (c .before .before .before .before .before .before .before .before .before .before .before .run .last .1 .1 .1 .1 .0) (c .before .before .before .before .before .before .before .before .before .before .before .run .result) (report (c .before .before .before .before .before .before .before .before .before .before .before .before .before .before .before .before .to-image .result)) (c .before .before .before .before .before .before .before .before .before .before .before .before .before .before .before .before .before .before .before .before .before .pre) (c .before .before .before .before .before .before .before .before .before .before .before .before .before .before .before .before .to-image .ensures) (c .before .before .before .before .before .before .before .before .before .before .before .before .before .before .trace-room .ensures) (c .before .before .before .before .before .before .before .before .before .before .before .run .ensures) (endWord true) (c .before .before .before .before .before .before .before .ran2 .given .0 .1 .0) (ending _ _ true (c .before .before .before .before .before .before .before .ran2 .given .0 .0) (c .before .before .before .before .before .before .before .ran2 .given .0 .1 .0) (sym (ap report (c .before .before .before .before .before .before .before .ran2 .given .1)) ∙ answered (c .before .before .before .before .before .before .before .before .before .before .before .before .before .before .before .before .before .before .before .before .before .args .program .now) (c .before .before .before .before .before .before .before .before .before .before .before .before .before .before .before .before .to-image .last .1 .0) (c .before .before .before .before .before .before .before .before .before .before .before .run .last .1 .1 .1 .0) (c .before .before .before .before .before .before .before .before .before .before .before .before .before .before .trace-room .result) (c .before .before .before .before .before .before .before .before .before .before .before .run .last .1 .1 .1 .1 .0) (c .before .before .before .before .before .before .before .before .before .before .before .run .result) (report (c .before .before .before .before .before .before .before .before .before .before .before .before .before .before .before .before .to-image .result)) (c .before .before .before .before .before .before .before .before .before .before .before .before .before .before .before .before .before .before .before .before .before .pre) (c .before .before .before .before .before .before .before .before .before .before .before .before .before .before .before .before .to-image .ensures) (c .before .before .before .before .before .before .before .before .before .before .before .before .before .before .trace-room .ensures) (c .before .before .before .before .before .before .before .before .before .before .before .run .ensures))))
+returns-2 c =
+    let r = c .before .before .before .before .before .before .before .before .before .before .before in
+    let t = r .before .before .before in
+    let i = t .before .before in
+    let s = i .before .before .before .before .before in
+    let image = i .to-image .last .1 .1 .1 .0 in
+    let state = r .run .last .1 .1 .1 .0 in
+    let trace = r .run .last .1 .1 .1 .1 .0 in
+    let w = c .before .before .before .before .before .before .before .ran2 .given in
+    c .before .before .write-ended2 .ensures ∙ ap (λ (x : List ℕ). fitted x (s .args .out .now)) (ended-is (s .args .program .now) image state (t .trace-room .result) trace (r .run .result) (report (i .to-image .result)) (s .pre) (i .to-image .ensures) (t .trace-room .ensures) (r .run .ensures)
+    (endWord true) (w .0 .1 .0) (ending _ _ true (w .0 .0) (w .0 .1 .0) (sym (ap report (w .1)) ∙ answered (s .args .program .now) image state (t .trace-room .result) trace (r .run .result) (report (i .to-image .result)) (s .pre) (i .to-image .ensures) (t .trace-room .ensures) (r .run .ensures))))
 
 returns-3 : tie.Need-returns-3
-returns-3 c = absurd (never-counts (c .before .before .before .before .before .before .before .before .before .before .before .before .before .before .args .program .now) (c .before .before .before .before .before .before .before .before .before .to-image .last .1 .0) (c .before .before .before .before .run .last .1 .1 .1 .0) (c .before .before .before .before .before .before .before .trace-room .result) (c .before .before .before .before .run .last .1 .1 .1 .1 .0) (c .before .before .before .before .run .result) (report (c .before .before .before .before .before .before .before .before .before .to-image .result)) (c .before .before .before .before .before .before .before .before .before .before .before .before .before .before .pre) (c .before .before .before .before .before .before .before .before .before .to-image .ensures) (c .before .before .before .before .before .before .before .trace-room .ensures) (c .before .before .before .before .run .ensures) (c .enum-told .given .0 .0) (ap report (c .enum-told .given .1)))
+returns-3 c =
+    let r = c .before .before .before .before in
+    let t = r .before .before .before in
+    let i = t .before .before in
+    let s = i .before .before .before .before .before in
+    let image = i .to-image .last .1 .1 .1 .0 in
+    let state = r .run .last .1 .1 .1 .0 in
+    let trace = r .run .last .1 .1 .1 .1 .0 in
+    let w = c .enum-told .given in
+    absurd (never-counts (s .args .program .now) image state (t .trace-room .result) trace (r .run .result) (report (i .to-image .result)) (s .pre) (i .to-image .ensures) (t .trace-room .ensures) (r .run .ensures) (w .0 .0) (ap report (w .1)))
 
 returns-4 : tie.Need-returns-4
-returns-4 c = absurd (never-refuses (c .before .before .before .before .before .before .before .before .before .before .before .before .before .before .args .program .now) (c .before .before .before .before .before .before .before .before .before .to-image .last .1 .0) (c .before .before .before .before .run .last .1 .1 .1 .0) (c .before .before .before .before .before .before .before .trace-room .result) (c .before .before .before .before .run .last .1 .1 .1 .1 .0) (c .before .before .before .before .run .result) (report (c .before .before .before .before .before .before .before .before .before .to-image .result)) (c .before .before .before .before .before .before .before .before .before .before .before .before .before .before .pre) (c .before .before .before .before .before .before .before .before .before .to-image .ensures) (c .before .before .before .before .before .before .before .trace-room .ensures) (c .before .before .before .before .run .ensures) (c .enum-told2 .given .0 .0) (c .enum-told2 .given .0 .1 .0) (ap report (c .enum-told2 .given .1)))
+returns-4 c =
+    let r = c .before .before .before .before in
+    let t = r .before .before .before in
+    let i = t .before .before in
+    let s = i .before .before .before .before .before in
+    let image = i .to-image .last .1 .1 .1 .0 in
+    let state = r .run .last .1 .1 .1 .0 in
+    let trace = r .run .last .1 .1 .1 .1 .0 in
+    let w = c .enum-told2 .given in
+    absurd (never-refuses (s .args .program .now) image state (t .trace-room .result) trace (r .run .result) (report (i .to-image .result)) (s .pre) (i .to-image .ensures) (t .trace-room .ensures) (r .run .ensures) (w .0 .0) (w .0 .1 .0) (ap report (w .1)))
 
 pub write-run-spec : {M : Type 1} → statement M
 write-run-spec =

@@ -24,7 +24,7 @@ returns c =
     let x = c .before .before .before .before .before .before .before .before .before .args in
     let e = c .before .before .before .before .expand in
     let n = c .before .match .keys2 in
-    (e .ensures, (refusal-on (x .program .now) (x .out .now) _ (e .result) (e .ensures) n (x .sets .now) (x .budget) _ (c .refusal-of .ensures), λ k w I. absurd (not-counted (x .program .now) (x .out .now) _ (e .result) (e .ensures) n k w)))
+    (e .ensures, (refusal-on (x .position) (x .spacing) (x .program .now) (x .out .now) _ (e .result) (e .ensures) n (x .sets .now) (x .budget) _ (c .refusal-of .ensures), λ k w I. absurd (not-counted (x .position) (x .spacing) (x .program .now) (x .out .now) _ (e .result) (e .ensures) n k w)))
 
 cast-end : tie.Need-cast-end
 cast-end c = search needs
@@ -37,14 +37,14 @@ slice-reshare-prefix-judge c =
     let x = c .before .before .before .before .before .before .before .before .before .before .args in
     let e = c .before .before .before .before .before .expand in
     let n = c .before .expanded in
-    listing-fits (x .program .now) (x .out .now) _ (e .result) (e .ensures) (n .given .0 .0) (n .given .1)
+    listing-fits (x .position) (x .spacing) (x .program .now) (x .out .now) _ (e .result) (e .ensures) (n .given .0 .0) (n .given .1)
 
 slice-aggregate-judge : tie.Need-slice-aggregate-judge
 slice-aggregate-judge c =
     let x = c .before .before .before .before .before .before .before .before .before .before .before .args in
     let e = c .before .before .before .before .before .before .expand in
     let n = c .before .before .expanded in
-    sym (length-take-le _ _ (listing-fits (x .program .now) (x .out .now) _ (e .result) (e .ensures) (n .given .0 .0) (n .given .1)))
+    sym (length-take-le _ _ (listing-fits (x .position) (x .spacing) (x .program .now) (x .out .now) _ (e .result) (e .ensures) (n .given .0 .0) (n .given .1)))
 
 judge-requires : tie.Need-judge-requires
 judge-requires c κs = search needs
@@ -59,7 +59,7 @@ returns-2 c =
     let n = c .before .before .before .expanded in
     let j = c .judge in
     let w = n .given in
-    (counted-call (x .program .now) (x .out .now) _ (e .result) (e .ensures) (w .0 .0) (w .1), (j .ensures, λ k _ I. clear-on (x .program .now) (x .out .now) _ (e .result) (e .ensures) (w .0 .0) (w .1) (x .sets .now) (x .budget) _ (j .ensures) I))
+    (counted-call (x .position) (x .spacing) (x .program .now) (x .out .now) _ (e .result) (e .ensures) (w .0 .0) (w .1), (j .ensures, λ k _ I. clear-on (x .position) (x .spacing) (x .program .now) (x .out .now) _ (e .result) (e .ensures) (w .0 .0) (w .1) (x .sets .now) (x .budget) _ (j .ensures) I))
 
 pub judged-expansion-spec : {M : Type 1} → statement M
 judged-expansion-spec =

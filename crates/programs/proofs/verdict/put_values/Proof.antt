@@ -1,5 +1,5 @@
 -- `programs::verdict::put_values` meets its contract: the bytes of the next set. Assumes nothing.
-use mathlib.Core.Path.{sym, ap, _∙_}
+use mathlib.Core.Path.{refl, sym, ap, _∙_}
 use mathlib.Core.List.{List}
 use Prim.Native.Nat.{ℕ, _+_, _*_}
 use native.Mathlib.Omega.{arith}
@@ -22,8 +22,8 @@ kind-at-requires c κs = search needs
 is-sensitive-requires : tie.Need-is-sensitive-requires
 is-sensitive-requires c κs = search needs
 
-neighbours-requires : tie.Need-neighbours-requires
-neighbours-requires c κs = search needs
+layout-of-requires : tie.Need-layout-of-requires
+layout-of-requires c κs = refl
 
 code-of-requires : tie.Need-code-of-requires
 code-of-requires c κs = search needs
@@ -48,7 +48,7 @@ returns c =
     let x = c .before .before .before .before .before .before .before .before .before .before .args in
     let p = c .before .before .before .before .before .before .before .before .before .before .pre in
     let one = c .before .before .before .before .code-of .result in
-    let coded = c .before .before .before .before .code-of .ensures ∙ ap (λ (L : Layout). code L 1) (c .before .before .before .before .before .neighbours .ensures) in
+    let coded = c .before .before .before .before .code-of .ensures ∙ ap (λ (L : Layout). code L 1) (c .before .before .before .before .before .layout-of .ensures) in
     let sensitive = ap isSensitive (sym (c .before .before .before .before .before .before .before .before .kind-at .ensures)) ∙ sym (c .before .before .before .before .before .before .before .is-sensitive .ensures) ∙ c .before .before .before .before .before .before .if1 .taken in
     c .before .before .put-bytes .ensures
     ∙ ap (λ (l : List ℕ). set (set (set l (setWidth * x .i) 2) (setWidth * x .i + 1) one) (setWidth * x .i + 2) (x .value)) (p .1)
@@ -73,7 +73,7 @@ put-values-spec =
     mul-at
     kind-at-requires
     is-sensitive-requires
-    neighbours-requires
+    layout-of-requires
     code-of-requires
     put-bytes-requires
     put-bytes-requires-2

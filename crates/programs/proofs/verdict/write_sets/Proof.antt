@@ -38,7 +38,7 @@ put-values-requires c κs =
     let t = c .before .loop-test in
     let m = c .before .before .loop in
     let v = c .before .before .before .before .to-image in
-    (t .taken, m .inv .1, zero-at (v .last .1 .0) (report (v .result)) (v .ensures) (m .i) (t .taken))
+    (t .taken, m .inv .1, zero-at (v .last .1 .1 .1 .0) (report (v .result)) (v .ensures) (m .i) (t .taken))
 
 add-i : tie.Need-add-i Inv-loop μ-loop
 add-i c = search needs

@@ -1,0 +1,121 @@
+-- Request 04, 'neighbours at position 0, as the two programs print, give the earlier bytes': the code, the table page, the images and the
+-- macros as they stood before a layout could be chosen, in their numbers, and the claim. Assumes nothing.
+use mathlib.Core.Path.{_≡_}
+use mathlib.Core.Bool.{Bool, true, cond, _||_}
+use mathlib.Core.List.{List, [], _∷_, _++_, flatMap}
+use Prim.Native.Nat.{ℕ, zero, suc, _-_}
+use lib.Dec.{eqb, ltb}
+use lib.ListN.{getD, replicate}
+use Rattle.model.specs.declared.Opcode.{Opcode}
+use Rattle.model.specs.declared.Opcode.the-variants.{Nop, Jmp, Not, Mov, And, Orr, Xor, Lsl, Lsr, Add, Mul, Beq, Bne}
+use Rattle.model.specs.declared.Operand.{Operand}
+use Rattle.model.specs.declared.Operand.the-variants.{Literal, Register, TableCell}
+use Rattle.model.specs.declared.Line.{Line}
+use Rattle.model.specs.Limits.{stateSize}
+use Rattle.model.specs.Answers.{unlessRefused}
+use Rattle.model.specs.Places.{State, kind}
+use Rattle.model.specs.Stored.{lines}
+use Rattle.model.specs.Text.{spellLine}
+use Rattle.model.specs.Run.{run}
+use Rattle.model.specs.Layouts.{layoutOf}
+use Rattle.model.specs.Images.{byKind, mapAt, image, back, bitRight, carried, toImageOutcome, fromImageOutcome}
+use Rattle.model.specs.Marks.{markCheck}
+use Rattle.model.specs.Expansion.{markedLine, move, load, expand, written, expandOutcome}
+use Rattle.model.specs.Programs.{traceBudget, printed, traceText, expandPrints, tracePrints}
+use Rattle.model.specs.Before.{expandBy}
+
+-- ---- the code and the table page
+
+abbrev pub codeEarlier : ℕ → ℕ
+codeEarlier zero = 2
+codeEarlier (suc n) = 1
+
+-- the tables of and, orr and xor, and cells 496 and 497 (request 03)
+abbrev pub pageEarlier : List ℕ
+pageEarlier =
+    (0 ∷ 0 ∷ 0 ∷ 0 ∷ 0 ∷ 1 ∷ 2 ∷ 0 ∷ 0 ∷ 2 ∷ 2 ∷ 0 ∷ 0 ∷ 0 ∷ 0 ∷ 0 ∷ [])
+    ++ ((0 ∷ 0 ∷ 0 ∷ 0 ∷ 0 ∷ 1 ∷ 1 ∷ 0 ∷ 0 ∷ 1 ∷ 2 ∷ 0 ∷ 0 ∷ 0 ∷ 0 ∷ 0 ∷ [])
+    ++ ((0 ∷ 0 ∷ 0 ∷ 0 ∷ 0 ∷ 2 ∷ 1 ∷ 0 ∷ 0 ∷ 1 ∷ 2 ∷ 0 ∷ 0 ∷ 0 ∷ 0 ∷ 0 ∷ [])
+    ++ (replicate 192 0 ++ (2 ∷ 1 ∷ replicate 14 0))))
+
+-- ---- images and the way back
+
+unfoldable pub fixedEarlier : ℕ → ℕ
+fixedEarlier i = cond (ltb i 4) 0 (getD pageEarlier (i - 288) 0)
+
+unfoldable pub imageEarlier : ℕ → ℕ → ℕ
+unfolding kind fixedEarlier
+imageEarlier i x = byKind (kind i) (fixedEarlier i) x (codeEarlier x)
+
+unfoldable pub backEarlier : ℕ → ℕ → ℕ
+unfolding kind
+backEarlier i x = byKind (kind i) 0 x (cond (eqb x 1) 1 0)
+
+unfoldable pub rightEarlier : ℕ → ℕ → Bool
+unfolding kind fixedEarlier
+rightEarlier i x = byKind (kind i) (cond (ltb i 4) (cond (eqb i 0) (eqb x 0) true) (eqb x (fixedEarlier i))) true (eqb x 1 || eqb x 2)
+
+-- ---- the macros; a load has two lines, or four with a public bit (request 03)
+
+-- and, orr, xor
+unfoldable pub lookupEarlier : ℕ → Operand → Operand → Operand → List Line
+lookupEarlier t d a b =
+    load 1 a
+    ++ (markedLine And (Register 1) (Register 1) (Literal 3)
+    ∷ markedLine Lsl (Register 1) (Register 1) (Literal 1)
+    ∷ markedLine Lsl (Register 1) (Register 1) (Literal 1)
+    ∷ load 2 b
+    ++ (markedLine And (Register 2) (Register 2) (Literal 3)
+    ∷ markedLine Orr (Register 1) (Register 1) (Register 2)
+    ∷ move (Register 3) (Register 0)
+    ∷ move (Register 3) (TableCell 1 t)
+    ∷ move d (Register 0)
+    ∷ move d (Register 3)
+    ∷ []))
+
+-- not
+unfoldable pub negateEarlier : Operand → Operand → List Line
+negateEarlier d a =
+    load 1 a
+    ++ (markedLine Xor (Register 1) (Register 1) (Literal 3)
+    ∷ move d (Register 0)
+    ∷ move d (Register 1)
+    ∷ [])
+
+-- mov
+unfoldable pub copyEarlier : Operand → Operand → List Line
+copyEarlier d a = load 3 a ++ (move d (Register 0) ∷ move d (Register 3) ∷ [])
+
+unfoldable pub macroEarlier : Opcode → Operand → Operand → Operand → List Line
+unfolding lookupEarlier negateEarlier copyEarlier
+macroEarlier Nop d a b = []
+macroEarlier Jmp d a b = []
+macroEarlier Not d a b = negateEarlier d a
+macroEarlier Mov d a b = copyEarlier d a
+macroEarlier And d a b = lookupEarlier 0 d a b
+macroEarlier Orr d a b = lookupEarlier 16 d a b
+macroEarlier Xor d a b = lookupEarlier 32 d a b
+macroEarlier Lsl d a b = []
+macroEarlier Lsr d a b = []
+macroEarlier Add d a b = []
+macroEarlier Mul d a b = []
+macroEarlier Beq d a b = []
+macroEarlier Bne d a b = []
+
+abbrev pub expandEarlier : List Line → List Line
+expandEarlier p = expandBy macroEarlier p
+
+-- ---- the claim
+
+-- the expansion, the images and the way back of every program and state; what the three entry points answer and leave; what the two programs
+-- print of every input
+pub record EarlierBytes : Type 0 where
+  pub expands : (p : List Line) → expand (layoutOf 0 0) p ≡ expandEarlier p
+  pub images : (s : State) → image (layoutOf 0 0) s ≡ mapAt imageEarlier 0 s
+  pub backs : (v : State) → back (layoutOf 0 0) v ≡ mapAt backEarlier 0 v
+  pub expanding : (p out : List ℕ) → expandOutcome 0 0 p out ≡ unlessRefused (markCheck p) (out ∷ []) (written (expandEarlier (lines p)) out)
+  pub imaging : (bits image′ : State) → toImageOutcome 0 0 bits image′ ≡ carried bitRight (mapAt imageEarlier 0) bits image′
+  pub coming-back : (image′ bits : State) → fromImageOutcome 0 0 image′ bits ≡ carried rightEarlier (mapAt backEarlier 0) image′ bits
+  pub expansion-printed : (input : List ℕ) → expandPrints input ≡ printed (λ p. flatMap spellLine (expandEarlier p)) input
+  pub trace-printed : (input : List ℕ)
+      → tracePrints input ≡ printed (λ p. traceText (expandEarlier p) (run (expandEarlier p) traceBudget 0 (mapAt imageEarlier 0 (replicate stateSize 0)))) input

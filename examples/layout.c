@@ -1,0 +1,27 @@
+/* Expands the listing on standard input in a layout: `layout POSITION SPACING < listing`, with position 0, 1 or 2 and spacing 0 for
+ * neighbouring bits or 1 for spaced ones. What is turned down prints `refused,number,line`, as the programs do. */
+#include "dualrail.h"
+
+#include <stdio.h>
+#include <stdlib.h>
+
+enum { LINES = 1025, WIDTH = 6, LONGEST = 17 };
+
+static uint8_t text[LONGEST * LINES * 34];
+static uint16_t program[WIDTH * LINES], expansion[LONGEST * WIDTH * LINES];
+
+static size_t count_of(uint64_t answer) {
+    if (answer >> 32) {
+        printf("refused,%u,%u\n", (unsigned)(answer >> 32), (unsigned)answer);
+        exit(1);
+    }
+    return answer;
+}
+
+int main(int count, char **words) {
+    uint8_t position = count > 1 ? atoi(words[1]) : 0, spacing = count > 2 ? atoi(words[2]) : 0;
+    size_t bytes = fread(text, 1, sizeof text, stdin);
+    size_t lines = count_of(dualrail_read(text, bytes, program, WIDTH * LINES));
+    size_t more = count_of(dualrail_expand(position, spacing, program, WIDTH * lines, expansion, LONGEST * WIDTH * LINES));
+    fwrite(text, 1, count_of(dualrail_write(expansion, WIDTH * more, text, sizeof text)), stdout);
+}
