@@ -6,14 +6,12 @@ use Prim.Native.Nat.{ℕ, _+_, _-_, _≤_, _<_}
 use native.Mathlib.Omega.{arith}
 use borrow.Author.Tests.{eq-eqb, ne-eqb, lt-ltb, le-ltb}
 use lib.Dec.{eqb, ltb}
-use Rattle.model.proofs.Forms.{by-form, low-form}
+use Rattle.model.proofs.Forms.{by-form, low-form, register, cell, public-cell}
 use Rattle.model.proofs.TestLaws.{below}
 use Rattle.model.specs.declared.Mark.the-variants.{Unmarked, Marked}
-use Rattle.model.specs.Stored.{registers, publics, markOf, operandOf, targetOf}
-use Rattle.model.specs.declared.Kind.{Kind}
-use Rattle.model.specs.declared.Kind.the-variants.{Neither}
-use Rattle.model.specs.declared.Operand.{Operand}
-use Rattle.model.specs.Places.{kindOf, isPublic}
+use Rattle.model.specs.Stored.{registers, cells, publics, sensitives, markOf, operandOf, targetOf}
+use Rattle.model.specs.declared.Kind.the-variants.{Neither, Sensitive}
+use Rattle.model.specs.Places.{kind, kindOf, isPublic}
 use Rattle.model.specs.Marks.{isReserved, hasSensitiveBase, isNoBit, isAbove, isMarked}
 
 marked-by : (x : Bool) → not x ≡ isMarked (cond x Unmarked Marked)
@@ -55,6 +53,40 @@ module _ (n : ℕ) where
       by-form n (λ o. isNoBit o ≡ false) (λ l. absurd (omega arith)) (λ g l. absurd (omega arith)) (λ g l. refl) (λ g l. refl)
       (λ g l. refl) (λ g l. refl) (λ g. refl)
 
--- whether an operand names public places, by the tests of its kind
-pub public-told : {k : Kind} {b c : Bool} (o : Operand) → k ≡ kindOf o → b ≡ isPublic k → b ≡ c → isPublic (kindOf o) ≡ c
-public-told o ek eb e = cc
+-- whether a number names public places, by its range
+module _ (n : ℕ) where
+  pub high-public : sensitives ≤ n → false ≡ isPublic (kindOf (operandOf n))
+  unfolding kindOf
+  high-public h =
+      by-form n (λ o. false ≡ isPublic (kindOf o)) (λ l. refl) (λ g l. refl) (λ g l. absurd (omega arith)) (λ g l. absurd (omega arith))
+      (λ g l. absurd (omega arith)) (λ g l. refl) (λ g. refl)
+
+  pub indirect-public : publics ≤ n → n < sensitives → true ≡ isPublic (kindOf (operandOf n))
+  unfolding kindOf
+  indirect-public g l = rw (public-cell n g l)
+
+  pub cell-public : cells ≤ n → n < publics → ltb (n - cells) 128 ≡ isPublic (kindOf (operandOf n))
+  unfolding kindOf kind
+  cell-public g l =
+      let m = n - cells in
+      rw (cell n g l, le-ltb (32 + m) 4 (omega arith), le-ltb (32 + m) 16 (omega arith), le-ltb (32 + m) 32 (omega arith))
+      (below m 128 (λ h. rw (lt-ltb m 128 h, lt-ltb (32 + m) 160 (omega arith)))
+      (λ h. rw (le-ltb m 128 h, le-ltb (32 + m) 160 (omega arith)) (past-cells (ltb (32 + m) 288))))
+    where
+      past-cells : (t : Bool) → false ≡ isPublic (cond t Sensitive Neither)
+      past-cells true = refl
+      past-cells false = refl
+
+  pub low-public : n < registers + 4 → false ≡ isPublic (kindOf (operandOf n))
+  unfolding kindOf kind
+  low-public h =
+      below n registers (λ l. rw (low-kind n l))
+      (λ g. rw (register n g (omega arith), lt-ltb (n - registers) 4 (omega arith)))
+
+  pub register-public : registers + 4 ≤ n → n < cells → ltb n (registers + 16) ≡ isPublic (kindOf (operandOf n))
+  unfolding kindOf kind
+  register-public g l =
+      let r = n - registers in
+      rw (register n (omega arith) l, le-ltb r 4 (omega arith))
+      (below r 16 (λ h. rw (lt-ltb n (registers + 16) (omega arith), lt-ltb r 16 h))
+      (λ h. rw (le-ltb n (registers + 16) (omega arith), le-ltb r 16 h, lt-ltb r 32 (omega arith))))

@@ -5,13 +5,14 @@ ghost use mathlib.Core.Bool.{true};
 ghost use mathlib.Core.List.{[], _∷_};
 ghost use Prim.Native.Nat.{ℕ, _+_, _*_, _%_, _≤_, _<_};
 ghost use lib.ListN.{length};
+ghost use Rattle.model.specs.declared.Layout.{Layout};
 ghost use Rattle.model.specs.declared.Operand.{Operand};
 ghost use Rattle.model.specs.declared.Target.{Target};
 ghost use Rattle.model.specs.Stored.{targetCode, operandOf, lineAt};
 ghost use Rattle.model.specs.Expansion.{coded, markedLine, move, precharged, codeBit, load, scale, combine, fetch, flip, writeBack, lookup, negate, copy, macro, size};
 ghost use Rattle.expander.specs.Opcodes.{hasTable, tableOf, unary};
 ghost use Rattle.expander.specs.Writes.{lineWith, Wrote};
-use super::marks::kind_of;
+use super::marks::names_public;
 use model::LINE_WIDTH;
 use model::Layout;
 use model::Mark;
@@ -126,7 +127,7 @@ fn put_load(out: &mut [u16], at: usize, n: u16, a: u16) -> usize
     ensures { λ r. ⌜ Wrote (now (out .entry)) (now (out .exit)) at r (load n (operandOf a)) ⌝ }
 {
     let loaded = put_precharged(out, at, R0 + n, a);
-    if coding::is_public(kind_of(a)) {
+    if names_public(a) {
         return put_code_bit(out, loaded, n);
     }
     loaded
@@ -298,11 +299,11 @@ pub fn put_macro(
 
 // ---- how long a part is
 
-// The lines that load an argument: two more where a public place's bit is coded.
+// The lines that load an argument of a marked line: two more where a public place's bit is coded.
 fn load_size(a: u16) -> u16
-    ensures { λ r. ⌜ ((n : ℕ) → r ≡ length (load n (operandOf a))) ⌝ }
+    ensures { λ r. ⌜ ((L : Layout) (n : ℕ) → r ≡ length (load n (coded L (operandOf a)))) ⌝ }
 {
-    if coding::is_public(kind_of(a)) { 4 } else { 2 }
+    if names_public(a) { 4 } else { 2 }
 }
 
 // The lines that mask the first code and shift it.
@@ -315,24 +316,23 @@ fn scale_size(layout: Layout) -> u16
 
 // and, orr, xor, whichever their table and destination are: the loads, the scaling, and two lines each to combine, fetch and write back.
 fn lookup_size(layout: Layout, a: u16, b: u16) -> u16
-    ensures { λ r. ⌜ ((t : ℕ) (d : Operand) → r ≡ length (lookup layout t d (operandOf a) (operandOf b))) ⌝ }
+    ensures { λ r. ⌜ ((t : ℕ) (d : Operand) → r ≡ length (lookup layout t d (coded layout (operandOf a)) (coded layout (operandOf b)))) ⌝ }
 {
     load_size(a) + scale_size(layout) + load_size(b) + 6
 }
 
-// The lines of an opcode's macro with these arguments, whatever its destination is: of not a load, the flip and two to write back, of mov
-// a load and those two.
-fn macro_size(layout: Layout, o: Opcode, a: u16, b: u16) -> u16
-    ensures { λ r. ⌜ ((d : Operand) → r ≡ length (macro layout o d (operandOf a) (operandOf b))) ⌝ }
+// Of not a load, the flip and two lines to write back, of mov a load and those two; an opcode without a macro has none.
+fn unary_size(o: Opcode, a: u16) -> u16
+    ensures { λ r. ⌜ ((L : Layout) (d : Operand) → r ≡ length (unary L o d (coded L (operandOf a)))) ⌝ }
 {
     match o {
         Opcode::Nop => 0,
         Opcode::Jmp => 0,
         Opcode::Not => load_size(a) + 3,
         Opcode::Mov => load_size(a) + 2,
-        Opcode::And => lookup_size(layout, a, b),
-        Opcode::Orr => lookup_size(layout, a, b),
-        Opcode::Xor => lookup_size(layout, a, b),
+        Opcode::And => 0,
+        Opcode::Orr => 0,
+        Opcode::Xor => 0,
         Opcode::Lsl => 0,
         Opcode::Lsr => 0,
         Opcode::Add => 0,
@@ -340,6 +340,16 @@ fn macro_size(layout: Layout, o: Opcode, a: u16, b: u16) -> u16
         Opcode::Beq => 0,
         Opcode::Bne => 0,
     }
+}
+
+// The lines of an opcode's macro with the arguments that these become, whatever its destination is.
+fn macro_size(layout: Layout, o: Opcode, a: u16, b: u16) -> u16
+    ensures { λ r. ⌜ ((d : Operand) → r ≡ length (macro layout o d (coded layout (operandOf a)) (coded layout (operandOf b)))) ⌝ }
+{
+    if has_table(o) {
+        return lookup_size(layout, a, b);
+    }
+    unary_size(o, a)
 }
 
 // The lines of the part of line i.
@@ -350,10 +360,5 @@ pub fn size_at(layout: Layout, program: &[u16], i: usize) -> u16
     if n[0] == 0 {
         return 1;
     }
-    macro_size(
-        layout,
-        coding::opcode_of(n[1]),
-        coded(layout, n[3]),
-        coded(layout, n[4]),
-    )
+    macro_size(layout, coding::opcode_of(n[1]), n[3], n[4])
 }

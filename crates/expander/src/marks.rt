@@ -2,7 +2,7 @@
 // on the stored numbers themselves, by the ranges that decode them; no line is made.
 ghost use mathlib.Core.Path.{_≡_};
 ghost use Rattle.model.specs.Answers.{report};
-ghost use Rattle.model.specs.Places.{kindOf};
+ghost use Rattle.model.specs.Places.{kindOf, isPublic};
 ghost use Rattle.model.specs.Stored.{markOf, operandOf, targetOf, lineOf, lineAt, lines};
 ghost use Rattle.model.specs.Marks.{isReserved, hasSensitiveBase, isNoBit, hasMacro, isAbove, isMarked, readsSensitive};
 ghost use Rattle.model.specs.Marks.{holds10, holds11, holds12, holds14, holds15, holds16, markFault, marksOf};
@@ -46,6 +46,25 @@ pub fn kind_of(code: u16) -> Kind
         return Kind::Sensitive;
     }
     Kind::Neither
+}
+
+// Whether an operand names public places. The expander asks it of each argument of a marked line, most of which the first tests tell.
+pub fn names_public(code: u16) -> bool
+    ensures { λ r. ⌜ r ≡ isPublic (kindOf (operandOf code)) ⌝ }
+{
+    if SENSITIVES <= code {
+        return false;
+    }
+    if PUBLICS <= code {
+        return true;
+    }
+    if CELLS <= code {
+        return code - CELLS < 128;
+    }
+    if code < REGISTERS + 4 {
+        return false;
+    }
+    code < REGISTERS + 16
 }
 
 // r0 to r3, also as a base, a cell above 255, or ^.

@@ -1,162 +1,31 @@
--- `expander::macros::macro_size` meets its contract. An arm for each opcode. Assumes nothing.
-use mathlib.Core.Path.{refl}
-use native.Mathlib.Omega.{arith}
-use Rattle.model.specs.declared.Opcode.the-variants.{Nop, Jmp, Not, Mov, And, Orr, Xor, Lsl, Lsr, Add, Mul, Beq, Bne}
-use Rattle.model.specs.Stored.{operandOf}
-use Rattle.model.specs.Expansion.{macro, flip, writeBack}
-use Rattle.model.proofs.Loads.{load-bounds}
-use Rattle.model.proofs.Lengths.{negate-pieces, copy-pieces}
-use Rattle.expander.proofs.PartSizes.{at-opcode}
+-- `expander::macros::macro_size` meets its contract. By whether the opcode has a table. Assumes nothing.
+use mathlib.Core.Path.{refl, sym, ap, _∙_}
+use lib.ListN.{length}
+use Rattle.expander.proofs.PieceWrites.{table-macro, unary-macro}
 use borrow.Author.Needs.{needs}
 use Rattle.expander.proofs.macros.macro_size.Statement.{statement}
 use Rattle.expander.proofs.macros.macro_size.Tie as tie
 
-enum-told : tie.Need-enum-told
-enum-told c = search needs
-
-enum-told-2 : tie.Need-enum-told-2
-enum-told-2 c = search needs
-
-enum-told-3 : tie.Need-enum-told-3
-enum-told-3 c = search needs
-
-load-size-requires : tie.Need-load-size-requires
-load-size-requires c κs = search needs
-
-add-result : tie.Need-add-result
-add-result c = record { fits = omega (arith, load-bounds 1 (operandOf (c .before .before .before .args .a)), c .load-size .ensures 1) }
-
-enum-told-4 : tie.Need-enum-told-4
-enum-told-4 c = search needs
-
-load-size-requires-2 : tie.Need-load-size-requires-2
-load-size-requires-2 c κs = search needs
-
-add-result-2 : tie.Need-add-result-2
-add-result-2 c = record { fits = omega (arith, load-bounds 3 (operandOf (c .before .before .before .args .a)), c .load-size2 .ensures 3) }
-
-enum-told-5 : tie.Need-enum-told-5
-enum-told-5 c = search needs
+has-table-requires : tie.Need-has-table-requires
+has-table-requires c κs = search needs
 
 lookup-size-requires : tie.Need-lookup-size-requires
 lookup-size-requires c κs = search needs
 
-enum-told-6 : tie.Need-enum-told-6
-enum-told-6 c = search needs
-
-lookup-size-requires-2 : tie.Need-lookup-size-requires-2
-lookup-size-requires-2 c κs = search needs
-
-enum-told-7 : tie.Need-enum-told-7
-enum-told-7 c = search needs
-
-lookup-size-requires-3 : tie.Need-lookup-size-requires-3
-lookup-size-requires-3 c κs = search needs
-
-enum-told-8 : tie.Need-enum-told-8
-enum-told-8 c = search needs
-
-enum-told-9 : tie.Need-enum-told-9
-enum-told-9 c = search needs
-
-enum-told-10 : tie.Need-enum-told-10
-enum-told-10 c = search needs
-
-enum-told-11 : tie.Need-enum-told-11
-enum-told-11 c = search needs
-
-enum-told-12 : tie.Need-enum-told-12
-enum-told-12 c = search needs
-
-enum-told-13 : tie.Need-enum-told-13
-enum-told-13 c = search needs
-
 returns : tie.Need-returns
-unfolding macro
-returns c = λ d. at-opcode _ _ Nop _ d _ _ (c .enum-told .given .1) refl
+returns c = λ d.
+    let i = c .before in
+    let s = i .before .before in
+    c .lookup-size .ensures _ d ∙ sym (ap length (table-macro (s .args .layout) (s .args .o) d _ _ _ (i .before .has-table .ensures) _ (i .if1 .taken) refl))
+
+unary-size-requires : tie.Need-unary-size-requires
+unary-size-requires c κs = search needs
 
 returns-2 : tie.Need-returns-2
-unfolding macro
-returns-2 c = λ d. at-opcode _ _ Jmp _ d _ _ (c .enum-told2 .given .1) refl
-
-returns-3 : tie.Need-returns-3
-unfolding macro flip writeBack
-returns-3 c = λ d. at-opcode _ _ Not _ d _ _ (c .before .enum-told3 .given .1) (rw negate-pieces (omega (arith, c .load-size .ensures 1)))
-
-returns-4 : tie.Need-returns-4
-unfolding macro writeBack
-returns-4 c = λ d. at-opcode _ _ Mov _ d _ _ (c .before .enum-told4 .given .1) (rw copy-pieces (omega (arith, c .load-size2 .ensures 3)))
-
-returns-5 : tie.Need-returns-5
-unfolding macro
-returns-5 c = λ d. at-opcode _ _ And _ d _ _ (c .before .enum-told5 .given .1) (c .lookup-size .ensures _ d)
-
-returns-6 : tie.Need-returns-6
-unfolding macro
-returns-6 c = λ d. at-opcode _ _ Orr _ d _ _ (c .before .enum-told6 .given .1) (c .lookup-size2 .ensures _ d)
-
-returns-7 : tie.Need-returns-7
-unfolding macro
-returns-7 c = λ d. at-opcode _ _ Xor _ d _ _ (c .before .enum-told7 .given .1) (c .lookup-size3 .ensures _ d)
-
-returns-8 : tie.Need-returns-8
-unfolding macro
-returns-8 c = λ d. at-opcode _ _ Lsl _ d _ _ (c .enum-told8 .given .1) refl
-
-returns-9 : tie.Need-returns-9
-unfolding macro
-returns-9 c = λ d. at-opcode _ _ Lsr _ d _ _ (c .enum-told9 .given .1) refl
-
-returns-10 : tie.Need-returns-10
-unfolding macro
-returns-10 c = λ d. at-opcode _ _ Add _ d _ _ (c .enum-told10 .given .1) refl
-
-returns-11 : tie.Need-returns-11
-unfolding macro
-returns-11 c = λ d. at-opcode _ _ Mul _ d _ _ (c .enum-told11 .given .1) refl
-
-returns-12 : tie.Need-returns-12
-unfolding macro
-returns-12 c = λ d. at-opcode _ _ Beq _ d _ _ (c .enum-told12 .given .1) refl
-
-returns-13 : tie.Need-returns-13
-unfolding macro
-returns-13 c = λ d. at-opcode _ _ Bne _ d _ _ (c .enum-told13 .given .1) refl
+returns-2 c = λ d.
+    let i = c .before in
+    let s = i .before .before in
+    c .unary-size .ensures (s .args .layout) d ∙ sym (ap length (unary-macro (s .args .layout) (s .args .o) d _ _ _ (i .before .has-table .ensures) (i .if1 .left)))
 
 pub macro-size-spec : {M : Type 1} → statement M
-macro-size-spec =
-    tie.close
-    (tie.spec
-    enum-told
-    enum-told-2
-    enum-told-3
-    load-size-requires
-    add-result
-    enum-told-4
-    load-size-requires-2
-    add-result-2
-    enum-told-5
-    lookup-size-requires
-    enum-told-6
-    lookup-size-requires-2
-    enum-told-7
-    lookup-size-requires-3
-    enum-told-8
-    enum-told-9
-    enum-told-10
-    enum-told-11
-    enum-told-12
-    enum-told-13
-    returns
-    returns-2
-    returns-3
-    returns-4
-    returns-5
-    returns-6
-    returns-7
-    returns-8
-    returns-9
-    returns-10
-    returns-11
-    returns-12
-    returns-13)
+macro-size-spec = tie.close (tie.spec has-table-requires lookup-size-requires returns unary-size-requires returns-2)

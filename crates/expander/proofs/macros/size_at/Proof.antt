@@ -1,5 +1,5 @@
 -- `expander::macros::size_at` meets its contract. By the mark: one line, or the macro of the opcode and its arguments. Assumes nothing.
-use mathlib.Core.Path.{_∙_}
+use mathlib.Core.Path.{refl, _∙_}
 use Rattle.expander.proofs.PartSizes.{plain-length, marked-length}
 use borrow.Author.Needs.{needs}
 use Rattle.expander.proofs.macros.size_at.Statement.{statement}
@@ -22,28 +22,22 @@ array-read-opcode-of c = search needs
 opcode-of-requires : tie.Need-opcode-of-requires
 opcode-of-requires c κs = search needs
 
-array-read-coded : tie.Need-array-read-coded
-array-read-coded c = search needs
+array-read-macro-size : tie.Need-array-read-macro-size
+array-read-macro-size c = search needs
 
-coded-requires : tie.Need-coded-requires
-coded-requires c κs = search needs
-
-array-read-coded-2 : tie.Need-array-read-coded-2
-array-read-coded-2 c = search needs
-
-coded-requires-2 : tie.Need-coded-requires-2
-coded-requires-2 c κs = search needs
+array-read-macro-size-2 : tie.Need-array-read-macro-size-2
+array-read-macro-size-2 c = search needs
 
 macro-size-requires : tie.Need-macro-size-requires
 macro-size-requires c κs = search needs
 
 returns-2 : tie.Need-returns-2
 returns-2 c =
-    let o = c .before .before .before in
+    let o = c .before in
     let n = o .before .before in
     let s = n .before .before in
     c .macro-size .ensures _
-    ∙ marked-length (s .args .layout) (s .args .program .now) _ (s .args .i) (n .numbers-at .ensures) _ _ _ (o .opcode-of .ensures) (o .before .if1 .left) (c .before .before .coded .ensures) (c .before .coded2 .ensures)
+    ∙ marked-length (s .args .layout) (s .args .program .now) _ (s .args .i) (n .numbers-at .ensures) _ _ _ (o .opcode-of .ensures) (o .before .if1 .left) refl refl
 
 pub size-at-spec : {M : Type 1} → statement M
 size-at-spec =
@@ -54,9 +48,7 @@ size-at-spec =
     returns
     array-read-opcode-of
     opcode-of-requires
-    array-read-coded
-    coded-requires
-    array-read-coded-2
-    coded-requires-2
+    array-read-macro-size
+    array-read-macro-size-2
     macro-size-requires
     returns-2)
