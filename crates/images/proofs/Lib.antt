@@ -1,2 +1,4 @@
 pub mod Tables
-pub mod Walk
+pub mod Ranges
+pub mod KindRanges
+pub mod Carrying

@@ -1,22 +1,20 @@
 // 'Code, tables, macros' of document 01, the tables and the images of bit states, and the way back: conditions 23, 18 and 19, then a store of
 // 544 bytes, place by place.
 ghost use mathlib.Core.Path.{_≡_};
-ghost use mathlib.Core.Bool.{cond, _||_};
+ghost use mathlib.Core.Bool.{cond};
 ghost use mathlib.Core.List.{[], _∷_};
-ghost use Prim.Native.Nat.{ℕ, _+_, _*_, _≤_, _<_};
+ghost use Prim.Native.Nat.{ℕ, _+_, _-_, _*_, _≤_, _<_};
 ghost use lib.Dec.{eqb};
 ghost use lib.ListN.{getD, length};
-ghost use Rattle.model.specs.declared.Layout.{Layout};
 ghost use Rattle.model.specs.declared.Opcode.{Opcode};
 ghost use Rattle.model.specs.Limits.{stateSize};
 ghost use Rattle.model.specs.Answers.{report, outcome};
 ghost use Rattle.model.specs.Layouts.{Known};
-ghost use Rattle.model.specs.Code.{code};
-ghost use Rattle.model.specs.Images.{fixed, imageAt, backAt, image as imageOf, back as backOf};
-ghost use Rattle.model.specs.Images.{bitRight, fixedRight, imageRight, every, imageIn, bitsIn, toImageOutcome, fromImageOutcome};
+ghost use Rattle.model.specs.Images.{image as imageOf, back as backOf};
+ghost use Rattle.model.specs.Images.{bitRight, imageRight, every, imageIn, bitsIn, toImageOutcome, fromImageOutcome};
 ghost use Rattle.images.specs.Pages.{entries, copied, pageBytes};
+ghost use Rattle.images.specs.Ranges.{either, onPage, between, shifted, chosen, filled};
 use model::Answer;
-use model::Kind;
 use model::Layout;
 use model::STATE_SIZE;
 
@@ -91,142 +89,135 @@ fn page_of(layout: Layout) -> [u8; PAGE]
     page
 }
 
-// What an image holds where neither a public nor a sensitive place is: 0 in r0 to r3, then the table page.
-fn fixed_at(page: &[u8; PAGE], i: usize) -> u8
-    requires { ⌜ (i < stateSize) × (length (now page) ≡ 256) ⌝ }
-    ensures { λ r. ⌜ ((L : Layout) → Known L → now (page .entry) ≡ pageBytes L → r ≡ fixed L i) ⌝ }
+// ---- the places of a state, from one to before another
+
+// Where the kinds of places change: r0 to r3, public and sensitive registers, public and sensitive cells, the table page.
+const R4: usize = 4;
+
+const R16: usize = 16;
+
+const CELLS: usize = 32;
+
+const CELL_128: usize = 160;
+
+const PAGE_START: usize = 288;
+
+// Whether each holds x or y. Nothing is returned early, so that many places are looked at in one step.
+fn are_either(state: &[u8], start: usize, end: usize, x: u8, y: u8) -> bool
+    requires { ⌜ (start ≤ end) × (end ≤ length (now state)) ⌝ }
+    ensures { λ r. ⌜ r ≡ between (either x y) start (end - start) (now (state .entry)) ⌝ }
 {
-    if i < 288 {
-        return 0;
+    let mut good = true;
+    let mut i = start;
+    while i < end {
+        good = good & ((state[i] == x) | (state[i] == y));
+        i += 1;
     }
-    page[i - 288]
+    good
 }
 
-// What an image holds at place i, x being what the bit state holds there.
-fn image_at(layout: Layout, page: &[u8; PAGE], i: usize, x: u8) -> u8
-    requires { ⌜ Known layout × (now page ≡ pageBytes layout) × (i < stateSize) ⌝ }
-    ensures { λ r. ⌜ r ≡ imageAt layout i x ⌝ }
+// Whether a state has that table page.
+fn has_page(page: &[u8; PAGE], state: &[u8]) -> bool
+    requires { ⌜ (length (now page) ≡ 256) × (length (now state) ≡ stateSize) ⌝ }
+    ensures { λ r. ⌜ r ≡ between (onPage (now (page .entry))) 288 256 (now (state .entry)) ⌝ }
 {
-    match coding::kind_at(i) {
-        Kind::Neither => fixed_at(page, i),
-        Kind::Public => x,
-        Kind::Sensitive => coding::code_of(layout, x),
+    let mut good = true;
+    let mut i = PAGE_START;
+    while i < STATE_SIZE {
+        good = good & (state[i] == page[i - PAGE_START]);
+        i += 1;
     }
+    good
 }
 
-fn bit_of(layout: Layout, x: u8) -> u8
-    ensures { λ r. ⌜ r ≡ cond (eqb x (code layout 1)) 1 0 ⌝ }
+// Copies bytes to them, from as many places before as `shift` says.
+fn copy_between(from: &[u8], shift: usize, into: &mut [u8], start: usize, end: usize)
+    requires { ⌜ (shift ≤ start) × (start ≤ end) × (end ≤ length (now into)) × (end ≤ shift + length (now from)) ⌝ }
+    ensures { λ r. ⌜ now (into .exit) ≡ filled (shifted (now (from .entry)) shift) start (end - start) (now (into .entry)) ⌝ }
 {
-    if x == layout.one { 1 } else { 0 }
-}
-
-// What the way back leaves at place i, x being what the image holds there.
-fn back_at(layout: Layout, i: usize, x: u8) -> u8
-    ensures { λ r. ⌜ r ≡ backAt layout i x ⌝ }
-{
-    match coding::kind_at(i) {
-        Kind::Neither => 0,
-        Kind::Public => x,
-        Kind::Sensitive => bit_of(layout, x),
-    }
-}
-
-// Whether a bit state may hold x at place i.
-fn bit_right(i: usize, x: u8) -> bool
-    ensures { λ r. ⌜ r ≡ bitRight i x ⌝ }
-{
-    match coding::kind_at(i) {
-        Kind::Neither => x == 0,
-        Kind::Public => true,
-        Kind::Sensitive => x <= 1,
-    }
-}
-
-fn is_code(layout: Layout, x: u8) -> bool
-    ensures { λ r. ⌜ r ≡ (eqb x (code layout 1) || eqb x (code layout 0)) ⌝ }
-{
-    if x == layout.one {
-        true
-    } else {
-        x == layout.zero
+    let mut i = start;
+    while i < end {
+        into[i] = from[i - shift];
+        i += 1;
     }
 }
 
-// Whether x may stand on the way back where neither a public nor a sensitive place is; r1 to r3 hold anything.
-fn is_fixed(page: &[u8; PAGE], i: usize, x: u8) -> bool
-    requires { ⌜ (i < stateSize) × (length (now page) ≡ 256) ⌝ }
-    ensures { λ r. ⌜ ((L : Layout) → Known L → now (page .entry) ≡ pageBytes L → r ≡ fixedRight L i x) ⌝ }
+fn choose(byte: u8, key: u8, x: u8, y: u8) -> u8
+    ensures { λ r. ⌜ r ≡ cond (eqb byte key) x y ⌝ }
 {
-    if i < 4 {
-        if i == 0 {
-            return x == 0;
-        }
-        return true;
-    }
-    x == fixed_at(page, i)
+    if byte == key { x } else { y }
 }
 
-// Whether x may stand at place i on the way back.
-fn image_right(layout: Layout, page: &[u8; PAGE], i: usize, x: u8) -> bool
-    requires { ⌜ Known layout × (now page ≡ pageBytes layout) × (i < stateSize) ⌝ }
-    ensures { λ r. ⌜ r ≡ imageRight layout i x ⌝ }
+// Writes x to them where the same place of another state holds the key, y where it does not.
+fn choose_between(from: &[u8], into: &mut [u8], start: usize, end: usize, key: u8, x: u8, y: u8)
+    requires { ⌜ (start ≤ end) × (end ≤ length (now into)) × (end ≤ length (now from)) ⌝ }
+    ensures { λ r. ⌜ now (into .exit) ≡ filled (chosen (now (from .entry)) key x y) start (end - start) (now (into .entry)) ⌝ }
 {
-    match coding::kind_at(i) {
-        Kind::Neither => is_fixed(page, i, x),
-        Kind::Public => true,
-        Kind::Sensitive => is_code(layout, x),
+    let mut i = start;
+    while i < end {
+        into[i] = choose(from[i], key, x, y);
+        i += 1;
     }
 }
 
+// ---- bit states and images
+
+// Whether a bit state may hold these bytes: 0 in r0 to r3 and the table page, 0 or 1 in sensitive places.
 fn bits_right(bits: &[u8]) -> bool
+    requires { ⌜ length (now bits) ≡ stateSize ⌝ }
     ensures { λ r. ⌜ r ≡ every bitRight 0 (now (bits .entry)) ⌝ }
 {
-    let mut i = 0;
-    while i < bits.len() {
-        if bit_right(i, bits[i]) {
-            i += 1;
-        } else {
-            return false;
-        }
-    }
-    true
+    let scratch = are_either(bits, 0, R4, 0, 0);
+    let registers = are_either(bits, R16, CELLS, 0, 1);
+    let cells = are_either(bits, CELL_128, PAGE_START, 0, 1);
+    let page = are_either(bits, PAGE_START, STATE_SIZE, 0, 0);
+    scratch & registers & cells & page
 }
 
+// Whether an image may hold them on the way back: 0 in r0, a code in sensitive places, the layout's table page; r1 to r3 hold anything.
 fn places_right(layout: Layout, page: &[u8; PAGE], image: &[u8]) -> bool
     requires { ⌜ Known layout × (now page ≡ pageBytes layout) × (length (now image) ≡ stateSize) ⌝ }
     ensures { λ r. ⌜ r ≡ every (imageRight layout) 0 (now (image .entry)) ⌝ }
 {
-    let mut i = 0;
-    while i < image.len() {
-        if image_right(layout, page, i, image[i]) {
-            i += 1;
-        } else {
-            return false;
-        }
-    }
-    true
+    let zero = are_either(image, 0, 1, 0, 0);
+    let registers = are_either(image, R16, CELLS, layout.one, layout.zero);
+    let cells = are_either(image, CELL_128, PAGE_START, layout.one, layout.zero);
+    let same = has_page(page, image);
+    zero & registers & cells & same
 }
 
+// Public places as they are, the code of each sensitive bit, the table page; r0 to r3 are 0.
 fn put_image(layout: Layout, page: &[u8; PAGE], bits: &[u8], image: &mut [u8])
     requires { ⌜ Known layout × (now page ≡ pageBytes layout) × (length (now bits) ≡ stateSize) × (length (now image) ≡ stateSize) ⌝ }
     ensures { λ r. ⌜ now (image .exit) ≡ imageOf layout (now (bits .entry)) ⌝ }
 {
-    let mut i = 0;
-    while i < bits.len() {
-        image[i] = image_at(layout, page, i, bits[i]);
-        i += 1;
-    }
+    choose_between(bits, image, 0, R4, 0, 0, 0);
+    copy_between(bits, 0, image, R4, R16);
+    choose_between(bits, image, R16, CELLS, 0, layout.zero, layout.one);
+    copy_between(bits, 0, image, CELLS, CELL_128);
+    choose_between(
+        bits,
+        image,
+        CELL_128,
+        PAGE_START,
+        0,
+        layout.zero,
+        layout.one,
+    );
+    copy_between(page, PAGE_START, image, PAGE_START, STATE_SIZE);
 }
 
+// Public places as they are, the bit of each code; r0 to r3 and the table page are 0.
 fn put_back(layout: Layout, image: &[u8], bits: &mut [u8])
-    requires { ⌜ length (now image) ≡ length (now bits) ⌝ }
+    requires { ⌜ (length (now image) ≡ stateSize) × (length (now bits) ≡ stateSize) ⌝ }
     ensures { λ r. ⌜ now (bits .exit) ≡ backOf layout (now (image .entry)) ⌝ }
 {
-    let mut i = 0;
-    while i < image.len() {
-        bits[i] = back_at(layout, i, image[i]);
-        i += 1;
-    }
+    choose_between(image, bits, 0, R4, 0, 0, 0);
+    copy_between(image, 0, bits, R4, R16);
+    choose_between(image, bits, R16, CELLS, layout.one, 1, 0);
+    copy_between(image, 0, bits, CELLS, CELL_128);
+    choose_between(image, bits, CELL_128, PAGE_START, layout.one, 1, 0);
+    choose_between(image, bits, PAGE_START, STATE_SIZE, 0, 0, 0);
 }
 
 // The bodies of `to_image` and `from_image`: 18 for either length, then 19, else the store filled.

@@ -1,60 +1,30 @@
--- `images::bits_right` meets its contract. The loop's invariant: the test of the places that are left answers as the whole does.
--- Assumes nothing.
-use Prim.Native.Nat.{_≤_, _-_}
-use mathlib.Core.Path.{_≡_, refl, sym, _∙_}
-use lib.ListN.{length, drop}
-use native.Mathlib.Omega.{arith}
-use Rattle.model.specs.Images.{bitRight, every}
-use Rattle.images.proofs.Walk.{every-pass, every-fail, every-end}
+-- `images::bits_right` meets its contract. The ranges of each kind, one after the other. Assumes nothing.
+use Rattle.images.proofs.KindRanges.{bits-by-range}
 use borrow.Author.Needs.{needs}
 use Rattle.images.proofs.bits_right.Statement.{statement}
 use Rattle.images.proofs.bits_right.Tie as tie
 
-abbrev Inv-loop : tie.InvT-loop
-Inv-loop bits i₀ i = (i ≤ length bits) × (every bitRight i (drop i bits) ≡ every bitRight 0 bits)
+are-either-requires : tie.Need-are-either-requires
+are-either-requires c κs = search needs
 
-abbrev μ-loop : tie.MeasureT-loop
-μ-loop bits i₀ i = length bits - i
+are-either-requires-2 : tie.Need-are-either-requires-2
+are-either-requires-2 c κs = search needs
 
-loop-holds : tie.Need-loop-holds Inv-loop μ-loop
-loop-holds c = (omega arith, refl)
+are-either-requires-3 : tie.Need-are-either-requires-3
+are-either-requires-3 c κs = search needs
 
-shared-slice-read-bit-right : tie.Need-shared-slice-read-bit-right Inv-loop μ-loop
-shared-slice-read-bit-right c = search needs
+are-either-requires-4 : tie.Need-are-either-requires-4
+are-either-requires-4 c κs = search needs
 
-bit-right-requires : tie.Need-bit-right-requires Inv-loop μ-loop
-bit-right-requires c κs = search needs
-
-add-i : tie.Need-add-i Inv-loop μ-loop
-add-i c = search needs
-
-loop-less : tie.Need-loop-less Inv-loop μ-loop
-loop-less c = search needs
-
-loop-again : tie.Need-loop-again Inv-loop μ-loop
-loop-again c =
-    let l = c .before .before .before .before .loop in
-    (omega arith, every-pass bitRight _ (l .i) (c .before .before .before .loop-test .taken) (sym (c .before .bit-right .ensures) ∙ c .if1 .taken) ∙ l .inv .1)
-
-returns : tie.Need-returns Inv-loop μ-loop
-returns c =
-    let l = c .before .before .before .before .loop in
-    every-fail bitRight _ (l .i) (c .before .before .before .loop-test .taken) (sym (c .before .bit-right .ensures) ∙ c .if1 .left) ∙ l .inv .1
-
-returns-2 : tie.Need-returns-2 Inv-loop μ-loop
-returns-2 c = every-end _ _ _ (search needs) ∙ c .before .loop .inv .1
+returns : tie.Need-returns
+returns c = bits-by-range (c .before .before .before .before .before .args .bits .now) _ _ _ _ (c .before .before .before .before .before .pre) (c .before .before .before .are-either .ensures) (c .before .before .are-either2 .ensures) (c .before .are-either3 .ensures) (c .are-either4 .ensures)
 
 pub bits-right-spec : {M : Type 1} → statement M
 bits-right-spec =
     tie.close
     (tie.spec
-    Inv-loop
-    μ-loop
-    loop-holds
-    shared-slice-read-bit-right
-    bit-right-requires
-    add-i
-    loop-less
-    loop-again
-    returns
-    returns-2)
+    are-either-requires
+    are-either-requires-2
+    are-either-requires-3
+    are-either-requires-4
+    returns)

@@ -1,6 +1,6 @@
 -- `images::make_bits` meets its contract. A return for each case of `carried`. Assumes nothing.
 use Rattle.model.specs.Images.{back, imageRight}
-use Rattle.images.proofs.Walk.{first-long, second-long, turned-down, goes-over}
+use Rattle.images.proofs.Carrying.{first-long, second-long, turned-down, goes-over}
 use borrow.Author.Needs.{needs}
 use Rattle.images.proofs.make_bits.Statement.{statement}
 use Rattle.images.proofs.make_bits.Tie as tie

@@ -1,6 +1,6 @@
 -- `images::make_image` meets its contract. A return for each case of `carried`. Assumes nothing.
 use Rattle.model.specs.Images.{image, bitRight}
-use Rattle.images.proofs.Walk.{first-long, second-long, turned-down, goes-over}
+use Rattle.images.proofs.Carrying.{first-long, second-long, turned-down, goes-over}
 use borrow.Author.Needs.{needs}
 use Rattle.images.proofs.make_image.Statement.{statement}
 use Rattle.images.proofs.make_image.Tie as tie

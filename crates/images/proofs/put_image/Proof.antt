@@ -1,66 +1,44 @@
--- `images::put_image` meets its contract. The loop's invariant: the first i places are the image's, the rest is as it was.
--- Assumes nothing.
-use Prim.Native.Nat.{_≤_, _-_}
-use mathlib.Core.Path.{_≡_, refl}
-use lib.ListN.{length, length-set}
-use native.Mathlib.Omega.{arith}
-use Rattle.model.specs.Images.{imageAt, mapAt, image}
-use Rattle.images.proofs.Walk.{front, map-next, map-all}
+-- `images::put_image` meets its contract. The ranges of each kind, one after the other. Assumes nothing.
+use Rattle.images.proofs.KindRanges.{image-by-range}
 use borrow.Author.Needs.{needs}
 use Rattle.images.proofs.put_image.Statement.{statement}
 use Rattle.images.proofs.put_image.Tie as tie
 
-abbrev Inv-loop : tie.InvT-loop
-Inv-loop layout page bits image₀ i₀ image i = (i ≤ length bits) × (length image ≡ length image₀) × (image ≡ front (mapAt (imageAt layout) 0 bits) image₀ i)
+choose-between-requires : tie.Need-choose-between-requires
+choose-between-requires c κs = search needs
 
-abbrev μ-loop : tie.MeasureT-loop
-μ-loop layout page bits image₀ i₀ image i = length bits - i
+copy-between-requires : tie.Need-copy-between-requires
+copy-between-requires c κs = search needs
 
-loop-holds : tie.Need-loop-holds Inv-loop μ-loop
-loop-holds c = (omega arith, refl, refl)
+choose-between-requires-2 : tie.Need-choose-between-requires-2
+choose-between-requires-2 c κs = search needs
 
-shared-slice-read-image-at : tie.Need-shared-slice-read-image-at Inv-loop μ-loop
-shared-slice-read-image-at c = search needs
+copy-between-requires-2 : tie.Need-copy-between-requires-2
+copy-between-requires-2 c κs = search needs
 
-image-at-requires : tie.Need-image-at-requires Inv-loop μ-loop
-image-at-requires c κs = search needs
+choose-between-requires-3 : tie.Need-choose-between-requires-3
+choose-between-requires-3 c κs = search needs
 
-slice-write-image : tie.Need-slice-write-image Inv-loop μ-loop
-slice-write-image c = search needs
+copy-between-requires-3 : tie.Need-copy-between-requires-3
+copy-between-requires-3 c κs = search needs
 
-add-i : tie.Need-add-i Inv-loop μ-loop
-add-i c = search needs
-
-loop-less : tie.Need-loop-less Inv-loop μ-loop
-loop-less c = search needs
-
-loop-again : tie.Need-loop-again Inv-loop μ-loop
-loop-again c =
-    let l = c .before .before .before .loop in
-    (omega arith, simp length-set (l .inv .1), map-next (imageAt (c .before .before .before .before .before .before .args .layout)) _ _ _ _ _ (l .inv .2) (c .image-at .ensures) (omega arith) (omega arith))
-
-same-length : tie.Need-same-length Inv-loop μ-loop
+same-length : tie.Need-same-length
 same-length c = search needs
 
-returns : tie.Need-returns Inv-loop μ-loop
-unfolding image
+returns : tie.Need-returns
 returns c =
-    let s = c .before .before .before .before in
-    let a = s .args in
-    map-all (imageAt (a .layout)) (a .bits .now) (a .image .now) _ _ (c .before .loop .inv .2) (c .loop-test .left) (omega (arith, s .pre .2, s .pre .3))
+    image-by-range (c .before .before .before .before .before .before .before .before .before .before .before .before .before .before .before .before .before .before .before .before .before .before .before .before .before .before .before .args .layout) (c .before .before .before .before .before .before .before .before .before .before .before .before .before .before .before .before .before .before .before .before .before .before .before .before .before .before .before .args .bits .now) (c .before .before .before .before .before .before .before .before .before .before .before .before .before .before .before .before .before .before .before .before .before .before .before .before .before .before .before .args .image .now) _ _ _ _ _ _ (c .before .before .before .before .before .before .before .before .before .before .before .before .before .before .before .before .before .before .before .before .before .before .before .before .before .before .before .pre .2) (c .before .before .before .before .before .before .before .before .before .before .before .before .before .before .before .before .before .before .before .before .before .before .before .before .before .before .before .pre .3) (c .before .before .before .before .before .before .before .before .before .before .before .before .before .before .before .before .before .before .before .before .before .before .before .before .before .before .before .args .page .now) (c .before .before .before .before .before .before .before .before .before .before .before .before .before .before .before .before .before .before .before .before .before .before .before .before .before .before .before .pre .1)
+    (c .before .before .before .before .before .before .before .before .before .before .before .before .before .before .before .before .before .before .before .before .before .before .before .choose-between .ensures) (c .before .before .before .before .before .before .before .before .before .before .before .before .before .before .before .before .before .before .before .copy-between .ensures) (c .before .before .before .before .before .before .before .before .before .before .before .before .before .before .before .choose-between2 .ensures) (c .before .before .before .before .before .before .before .before .before .before .before .copy-between2 .ensures) (c .before .before .before .before .before .before .before .choose-between3 .ensures) (c .before .before .copy-between3 .ensures)
 
 pub put-image-spec : {M : Type 1} → statement M
 put-image-spec =
     tie.close
     (tie.spec
-    Inv-loop
-    μ-loop
-    loop-holds
-    shared-slice-read-image-at
-    image-at-requires
-    slice-write-image
-    add-i
-    loop-less
-    loop-again
+    choose-between-requires
+    copy-between-requires
+    choose-between-requires-2
+    copy-between-requires-2
+    choose-between-requires-3
+    copy-between-requires-3
     same-length
     returns)

@@ -1,0 +1,218 @@
+-- A state by the ranges of its kinds: what a bit state, an image and the way back have in each of them. Assumes nothing.
+use mathlib.Core.Path.{_≡_, refl, sym, ap, _∙_}
+use mathlib.Core.Bool.{Bool, true, false, cond, _&&_, _||_}
+use mathlib.Core.List.{List}
+use Prim.Native.Nat.{ℕ, zero, suc, _+_, _-_, _≤_, _<_}
+use native.Mathlib.Omega.{arith}
+use borrow.Author.Tests.{lt-ltb, le-ltb, lt-leb, eq-eqb, ne-eqb}
+use lib.Dec.{eqb, leb, ltb}
+use lib.ListN.{length, getD, drop}
+use Rattle.model.specs.declared.Layout.{Layout}
+use Rattle.model.specs.declared.Kind.{Kind}
+use Rattle.model.specs.declared.Kind.the-variants.{Neither, Public, Sensitive}
+use Rattle.model.specs.Limits.{stateSize}
+use Rattle.model.specs.Layouts.{Known}
+use Rattle.model.specs.Places.{State, kind}
+use Rattle.model.specs.Code.{code}
+use Rattle.model.specs.Images.{byKind, mapAt, fixed, imageAt, image, backAt, back, bitRight, fixedRight, imageRight, every}
+use Rattle.images.specs.Pages.{pageBytes}
+use Rattle.images.specs.Ranges.{between, either, onPage, filled, shifted, chosen}
+use Rattle.images.proofs.Tables.{page-fixed, high-fixed}
+use Rattle.images.proofs.Ranges.{tested, skipped, none-left, none-done, range-done, all-done}
+
+-- ---- the kind of a place, range by range
+
+module _ (j : ℕ) where
+  scratch : j < 4 → kind j ≡ Neither
+  unfolding kind
+  scratch h = rw (lt-ltb j 4 h)
+
+  public-register : 4 ≤ j → j < 16 → kind j ≡ Public
+  unfolding kind
+  public-register g h = rw (le-ltb j 4 g, lt-ltb j 16 h)
+
+  sensitive-register : 16 ≤ j → j < 32 → kind j ≡ Sensitive
+  unfolding kind
+  sensitive-register g h = rw (le-ltb j 4 (omega arith), le-ltb j 16 g, lt-ltb j 32 h)
+
+  public-cell : 32 ≤ j → j < 160 → kind j ≡ Public
+  unfolding kind
+  public-cell g h = rw (le-ltb j 4 (omega arith), le-ltb j 16 (omega arith), le-ltb j 32 g, lt-ltb j 160 h)
+
+  sensitive-cell : 160 ≤ j → j < 288 → kind j ≡ Sensitive
+  unfolding kind
+  sensitive-cell g h = rw (le-ltb j 4 (omega arith), le-ltb j 16 (omega arith), le-ltb j 32 (omega arith), le-ltb j 160 g, lt-ltb j 288 h)
+
+  page-cell : 288 ≤ j → kind j ≡ Neither
+  unfolding kind
+  page-cell g = rw (le-ltb j 4 (omega arith), le-ltb j 16 (omega arith), le-ltb j 32 (omega arith), le-ltb j 160 (omega arith), le-ltb j 288 g)
+
+-- either of one byte is that byte; a choice of 0 and 0 is 0; a byte no place before
+twice : (b : Bool) → (b || b) ≡ b
+twice true = refl
+twice false = refl
+
+none : (t : Bool) → _≡_ {A = ℕ} (cond t 0 0) 0
+none true = refl
+none false = refl
+
+unshifted : (s : List ℕ) (j : ℕ) → getD s j 0 ≡ shifted s 0 j
+unshifted s j = let q : j - 0 ≡ j = omega arith in rw q
+
+-- ---- bit states
+
+module _ (j v : ℕ) where
+  bit-neither : kind j ≡ Neither → bitRight j v ≡ either 0 0 j v
+  unfolding bitRight
+  bit-neither e = rw e (sym (twice (eqb v 0)))
+
+  bit-public : kind j ≡ Public → bitRight j v ≡ true
+  unfolding bitRight
+  bit-public e = rw e
+
+  bit-sensitive : kind j ≡ Sensitive → bitRight j v ≡ either 0 1 j v
+  unfolding bitRight
+  bit-sensitive e = rw e (go v)
+    where
+      go : (v : ℕ) → leb v 1 ≡ (eqb v 0 || eqb v 1)
+      go zero = refl
+      go (suc zero) = refl
+      go (suc (suc v)) = rw (lt-leb (suc (suc v)) 1 (omega arith), ne-eqb (suc (suc v)) 0 (λ q. omega arith), ne-eqb (suc (suc v)) 1 (λ q. omega arith))
+
+joined : (a b c d x y z : Bool) {w : Bool} → w ≡ (a && x) → x ≡ (b && y) → y ≡ (c && z) → z ≡ d → (((a && b) && c) && d) ≡ w
+joined a b c d x y z ex ey ez ew = rw (ex, ey, ez, ew) (go a b c d)
+  where
+    go : (a b c d : Bool) → (((a && b) && c) && d) ≡ (a && (b && (c && d)))
+    go true true true d = refl
+    go true true false d = refl
+    go true false c d = refl
+    go false b c d = refl
+
+last : (f : ℕ → ℕ → Bool) (s : State) → length s ≡ stateSize → (b : Bool) → (b && every f 544 (drop 544 s)) ≡ b
+last f s h b = rw (none-left f s 544 (omega arith)) (go b)
+  where
+    go : (b : Bool) → (b && true) ≡ b
+    go true = refl
+    go false = refl
+
+pub bits-by-range : (s : State) (a b c d : Bool) → length s ≡ stateSize → a ≡ between (either 0 0) 0 4 s → b ≡ between (either 0 1) 16 16 s
+    → c ≡ between (either 0 1) 160 128 s → d ≡ between (either 0 0) 288 256 s → (((a && b) && c) && d) ≡ every bitRight 0 s
+bits-by-range s a b c d h ea eb ec ed =
+    let t1 = tested bitRight s (either 0 0) 0 4 (omega arith) (λ j g l. bit-neither j (getD s j 0) (scratch j (omega arith))) in
+    let t2 = skipped bitRight s 4 12 (omega arith) (λ j g l. bit-public j (getD s j 0) (public-register j g (omega arith))) in
+    let t3 = tested bitRight s (either 0 1) 16 16 (omega arith) (λ j g l. bit-sensitive j (getD s j 0) (sensitive-register j g (omega arith))) in
+    let t4 = skipped bitRight s 32 128 (omega arith) (λ j g l. bit-public j (getD s j 0) (public-cell j g (omega arith))) in
+    let t5 = tested bitRight s (either 0 1) 160 128 (omega arith) (λ j g l. bit-sensitive j (getD s j 0) (sensitive-cell j g (omega arith))) in
+    let t6 = tested bitRight s (either 0 0) 288 256 (omega arith) (λ j g l. bit-neither j (getD s j 0) (page-cell j g)) in
+    let pages = between (either 0 0) 288 256 s in
+    rw (ea, eb, ec, ed)
+    (joined (between (either 0 0) 0 4 s) (between (either 0 1) 16 16 s) (between (either 0 1) 160 128 s) pages
+    (every bitRight 4 (drop 4 s)) (every bitRight 32 (drop 32 s)) (every bitRight 288 (drop 288 s)) t1 (t2 ∙ t3) (t4 ∙ t5) (t6 ∙ last bitRight s h pages))
+
+-- ---- the way back: what may stand there
+
+module _ (L : Layout) where
+  module _ (j v : ℕ) where
+    image-zero : j < 1 → imageRight L j v ≡ either 0 0 j v
+    unfolding imageRight fixedRight
+    image-zero h = let q : j ≡ 0 = omega arith in rw (scratch j (omega arith), lt-ltb j 4 (omega arith), eq-eqb j 0 q) (sym (twice (eqb v 0)))
+
+    image-free : 1 ≤ j → j < 4 → imageRight L j v ≡ true
+    unfolding imageRight fixedRight
+    image-free g h = rw (scratch j h, lt-ltb j 4 h, ne-eqb j 0 (λ e. omega arith))
+
+    image-public : kind j ≡ Public → imageRight L j v ≡ true
+    unfolding imageRight
+    image-public e = rw e
+
+    image-sensitive : kind j ≡ Sensitive → imageRight L j v ≡ either (L .one) (L .zero) j v
+    unfolding imageRight code
+    image-sensitive e = rw e
+
+    image-page : (page : List ℕ) → page ≡ pageBytes L → 288 ≤ j → j < stateSize → imageRight L j v ≡ onPage page j v
+    unfolding imageRight
+    image-page page e g h = rw (page-cell j g) (sym (high-fixed L j v (getD page (j - 288) 0) (omega arith) (page-fixed L page j e g h)))
+
+  pub places-by-range : (s : State) (page : List ℕ) (a b c d : Bool) → length s ≡ stateSize → page ≡ pageBytes L → a ≡ between (either 0 0) 0 1 s
+      → b ≡ between (either (L .one) (L .zero)) 16 16 s → c ≡ between (either (L .one) (L .zero)) 160 128 s → d ≡ between (onPage page) 288 256 s
+      → (((a && b) && c) && d) ≡ every (imageRight L) 0 s
+  places-by-range s page a b c d h p ea eb ec ed =
+      let f = imageRight L in
+      let t1 = tested f s (either 0 0) 0 1 (omega arith) (λ j g l. image-zero j (getD s j 0) (omega arith)) in
+      let t2 = skipped f s 1 3 (omega arith) (λ j g l. image-free j (getD s j 0) g (omega arith)) in
+      let t3 = skipped f s 4 12 (omega arith) (λ j g l. image-public j (getD s j 0) (public-register j g (omega arith))) in
+      let t4 = tested f s (either (L .one) (L .zero)) 16 16 (omega arith) (λ j g l. image-sensitive j (getD s j 0) (sensitive-register j g (omega arith))) in
+      let t5 = skipped f s 32 128 (omega arith) (λ j g l. image-public j (getD s j 0) (public-cell j g (omega arith))) in
+      let t6 = tested f s (either (L .one) (L .zero)) 160 128 (omega arith) (λ j g l. image-sensitive j (getD s j 0) (sensitive-cell j g (omega arith))) in
+      let t7 = tested f s (onPage page) 288 256 (omega arith) (λ j g l. image-page j (getD s j 0) page p g (omega arith)) in
+      let coded = either (L .one) (L .zero) in
+      let pages = between (onPage page) 288 256 s in
+      rw (ea, eb, ec, ed)
+      (joined (between (either 0 0) 0 1 s) (between coded 16 16 s) (between coded 160 128 s) pages
+      (every f 1 (drop 1 s)) (every f 32 (drop 32 s)) (every f 288 (drop 288 s)) t1 (t2 ∙ t3 ∙ t4) (t5 ∙ t6) (t7 ∙ last f s h pages))
+
+  -- ---- images
+
+  module _ (j x : ℕ) where
+    image-scratch : j < 4 → imageAt L j x ≡ 0
+    unfolding imageAt fixed
+    image-scratch h = rw (scratch j h, lt-ltb j 4 h)
+
+    image-copied : kind j ≡ Public → imageAt L j x ≡ x
+    unfolding imageAt
+    image-copied e = rw e
+
+    image-coded : kind j ≡ Sensitive → imageAt L j x ≡ cond (eqb x 0) (L .zero) (L .one)
+    unfolding imageAt code
+    image-coded e = rw e (by x)
+      where
+        by : (x : ℕ) → code L x ≡ cond (eqb x 0) (L .zero) (L .one)
+        by zero = refl
+        by (suc x) = rw (ne-eqb (suc x) 0 (λ q. omega arith))
+
+    image-fixed : (page : List ℕ) → page ≡ pageBytes L → 288 ≤ j → j < stateSize → imageAt L j x ≡ getD page (j - 288) 0
+    unfolding imageAt
+    image-fixed page e g h = rw (page-cell j g) (sym (page-fixed L page j e g h))
+
+    back-neither : kind j ≡ Neither → backAt L j x ≡ 0
+    unfolding backAt
+    back-neither e = rw e
+
+    back-copied : kind j ≡ Public → backAt L j x ≡ x
+    unfolding backAt
+    back-copied e = rw e
+
+    back-decoded : kind j ≡ Sensitive → backAt L j x ≡ cond (eqb x (L .one)) 1 0
+    unfolding backAt code
+    back-decoded e = rw e
+
+  -- from store to store
+  module _ (s d one two three four five six : State) (h : length s ≡ stateSize) (g : length d ≡ stateSize) where
+    pub image-by-range : (page : List ℕ) → page ≡ pageBytes L → one ≡ filled (chosen s 0 0 0) 0 4 d → two ≡ filled (shifted s 0) 4 12 one
+        → three ≡ filled (chosen s 0 (L .zero) (L .one)) 16 16 two → four ≡ filled (shifted s 0) 32 128 three
+        → five ≡ filled (chosen s 0 (L .zero) (L .one)) 160 128 four → six ≡ filled (shifted page 288) 288 256 five → six ≡ image L s
+    unfolding image
+    image-by-range page p e1 e2 e3 e4 e5 e6 =
+        let f = imageAt L in
+        let q : length s ≡ length d = omega arith in
+        let w1 = range-done f s d q (chosen s 0 0 0) d 0 4 (omega arith) (λ j a b. image-scratch j (getD s j 0) (omega arith) ∙ sym (none (eqb (getD s j 0) 0))) (none-done f s d q) in
+        let w2 = range-done f s d q (shifted s 0) one 4 12 (omega arith) (λ j a b. image-copied j (getD s j 0) (public-register j a (omega arith)) ∙ unshifted s j) (e1 ∙ w1) in
+        let w3 = range-done f s d q (chosen s 0 (L .zero) (L .one)) two 16 16 (omega arith) (λ j a b. image-coded j (getD s j 0) (sensitive-register j a (omega arith))) (e2 ∙ w2) in
+        let w4 = range-done f s d q (shifted s 0) three 32 128 (omega arith) (λ j a b. image-copied j (getD s j 0) (public-cell j a (omega arith)) ∙ unshifted s j) (e3 ∙ w3) in
+        let w5 = range-done f s d q (chosen s 0 (L .zero) (L .one)) four 160 128 (omega arith) (λ j a b. image-coded j (getD s j 0) (sensitive-cell j a (omega arith))) (e4 ∙ w4) in
+        let w6 = range-done f s d q (shifted page 288) five 288 256 (omega arith) (λ j a b. image-fixed j (getD s j 0) page p a (omega arith)) (e5 ∙ w5) in
+        all-done f s d q six 544 (omega arith) (e6 ∙ w6)
+
+    pub back-by-range : one ≡ filled (chosen s 0 0 0) 0 4 d → two ≡ filled (shifted s 0) 4 12 one → three ≡ filled (chosen s (L .one) 1 0) 16 16 two
+        → four ≡ filled (shifted s 0) 32 128 three → five ≡ filled (chosen s (L .one) 1 0) 160 128 four → six ≡ filled (chosen s 0 0 0) 288 256 five → six ≡ back L s
+    unfolding back
+    back-by-range e1 e2 e3 e4 e5 e6 =
+        let f = backAt L in
+        let q : length s ≡ length d = omega arith in
+        let w1 = range-done f s d q (chosen s 0 0 0) d 0 4 (omega arith) (λ j a b. back-neither j (getD s j 0) (scratch j (omega arith)) ∙ sym (none (eqb (getD s j 0) 0))) (none-done f s d q) in
+        let w2 = range-done f s d q (shifted s 0) one 4 12 (omega arith) (λ j a b. back-copied j (getD s j 0) (public-register j a (omega arith)) ∙ unshifted s j) (e1 ∙ w1) in
+        let w3 = range-done f s d q (chosen s (L .one) 1 0) two 16 16 (omega arith) (λ j a b. back-decoded j (getD s j 0) (sensitive-register j a (omega arith))) (e2 ∙ w2) in
+        let w4 = range-done f s d q (shifted s 0) three 32 128 (omega arith) (λ j a b. back-copied j (getD s j 0) (public-cell j a (omega arith)) ∙ unshifted s j) (e3 ∙ w3) in
+        let w5 = range-done f s d q (chosen s (L .one) 1 0) four 160 128 (omega arith) (λ j a b. back-decoded j (getD s j 0) (sensitive-cell j a (omega arith))) (e4 ∙ w4) in
+        let w6 = range-done f s d q (chosen s 0 0 0) five 288 256 (omega arith) (λ j a b. back-neither j (getD s j 0) (page-cell j a) ∙ sym (none (eqb (getD s j 0) 0))) (e5 ∙ w5) in
+        all-done f s d q six 544 (omega arith) (e6 ∙ w6)
