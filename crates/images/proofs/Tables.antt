@@ -12,17 +12,18 @@ use lib.Dec.{T, eqb, ltb, leb, leb→le, ltb→lt, eqb→eq}
 use lib.ListN.{length, getD, replicate, set, length-set}
 use Rattle.model.specs.declared.Layout.{Layout}
 use Rattle.model.specs.Limits.{stateSize}
-use Rattle.model.specs.Layouts.{Known}
+use Rattle.model.specs.Layouts.{layoutOf, Known}
 use Rattle.model.specs.Step.{alu}
 use Rattle.model.specs.Text.{sameBytes}
 use Rattle.model.specs.Code.{code, entry, page}
+use Rattle.model.specs.declared.Opcode.{Opcode}
 use Rattle.model.specs.declared.Opcode.the-variants.{And, Orr, Xor}
 use Rattle.model.specs.Images.{mapAt, fixed, fixedRight, every}
 use Rattle.model.proofs.TestLaws.{below, is-true, and-both, allBelow, all-below}
 use Rattle.model.proofs.SpellingLaws.{same-bytes}
 use Rattle.model.proofs.Finite.{tableOp, forLayouts, for-layouts}
 use Rattle.model.proofs.PlaceLaws.{mapAt-length, mapAt-getD}
-use Rattle.images.specs.Pages.{entries, copied, pageBytes}
+use Rattle.images.specs.Pages.{entries, Small, copied, pageBytes}
 
 -- ---- a table's entries are small, so that none overflows when it is scaled
 
@@ -39,8 +40,12 @@ small-at i [] h k = omega arith
 small-at i (x ∷ xs) h zero = leb→le x 4 (and-both (leb x 4) (every (λ i x. leb x 4) (suc i) xs) h .0)
 small-at i (x ∷ xs) h (suc k) = small-at (suc i) xs (and-both (leb x 4) (every (λ i x. leb x 4) (suc i) xs) h .1) k
 
-pub entries-small : (o : ℕ) → o < 3 → (spaced : Bool) (table : List ℕ) → table ≡ entries spaced (tableOp o) → (k : ℕ) → getD table k 0 ≤ 4
-entries-small o h spaced table e k = rw e (small-at 0 (entries spaced (tableOp o)) (go spaced) k)
+entries-length : (spaced : Bool) (op : Opcode) → length (entries spaced op) ≡ 16
+unfolding entries
+entries-length spaced op = mapAt-length (λ i x. entry (layoutOf 0 (cond spaced 1 0)) op i) 0 (replicate 16 0)
+
+pub entries-small : (o : ℕ) → o < 3 → (spaced : Bool) (table : List ℕ) → table ≡ entries spaced (tableOp o) → Small table
+entries-small o h spaced table e = rw e (entries-length spaced (tableOp o), small-at 0 (entries spaced (tableOp o)) (go spaced))
   where
     both : T (small (entries true (tableOp o))) × T (small (entries false (tableOp o)))
     both =
@@ -54,32 +59,25 @@ entries-small o h spaced table e k = rw e (small-at 0 (entries spaced (tableOp o
 pub scaled-small : (u x : ℕ) → u ≤ 4 → x ≤ 4 → u * x ≤ 16
 scaled-small u x h g = mul-le-mul {n₂ = 4} {m₂ = 4} h g
 
-pub entry-within : (at u k : ℕ) → at + 15 * u < 256 → k < 16 → at + u * k < 256
-entry-within at u k h g = let w : u * k ≤ u * 15 = mul-le-mul-left u (omega arith) in omega arith
+-- ---- copying
 
--- one more entry copied
-pub copied-next : (u : ℕ) (table : List ℕ) (at : ℕ) (old new : List ℕ) (k : ℕ) → new ≡ copied u table at old k
-    → set new (at + u * k) (u * getD table k 0) ≡ copied u table at old (k + 1)
-unfolding copied
-copied-next u table at old new k e = rw (add-one k, e)
+module _ (L : Layout) (and orr xor : List ℕ) where
+  -- one more entry of each
+  pub copied-next : (old new : List ℕ) (k : ℕ) → new ≡ copied L and orr xor old k
+      → set (set (set new (L .one * k) (L .one * getD and k 0)) (L .orr + L .one * k) (L .one * getD orr k 0)) (L .xor + L .one * k) (L .one * getD xor k 0)
+      ≡ copied L and orr xor old (k + 1)
+  unfolding copied
+  copied-next old new k e = rw (add-one k, e)
 
-pub copied-length : (u : ℕ) (table : List ℕ) (at : ℕ) (old : List ℕ) (k : ℕ) → length (copied u table at old k) ≡ length old
-unfolding copied
-copied-length u table at old zero = refl
-copied-length u table at old (suc k) = length-set (copied u table at old k) (at + u * k) (u * getD table k 0) ∙ copied-length u table at old k
-
-pub copied-all : (u : ℕ) (table : List ℕ) (at : ℕ) (old new : List ℕ) (k : ℕ) → k ≤ 16 → 16 ≤ k → new ≡ copied u table at old k → new ≡ copied u table at old 16
-copied-all u table at old new k h g e = let q : k ≡ 16 = omega arith in e ∙ ap (copied u table at old) q
+  pub copied-all : (old new : List ℕ) (k : ℕ) → k ≤ 16 → 16 ≤ k → new ≡ copied L and orr xor old k → new ≡ copied L and orr xor old 16
+  copied-all old new k h g e = let q : k ≡ 16 = omega arith in e ∙ ap (copied L and orr xor old) q
 
 -- ---- the page
 
 -- as it is made
-abbrev tables : Layout → List ℕ
-tables L =
-    copied (L .one) (entries (L .spaced) Xor) (L .xor) (copied (L .one) (entries (L .spaced) Orr) (L .orr) (copied (L .one) (entries (L .spaced) And) 0 (replicate 256 0) 16) 16) 16
-
 abbrev made : Layout → List ℕ
-made L = set (set (tables L) 240 (L .zero)) 241 (L .one)
+made L =
+    set (set (copied L (entries (L .spaced) And) (entries (L .spaced) Orr) (entries (L .spaced) Xor) (replicate 256 0) 16) 240 (L .zero)) 241 (L .one)
 
 -- what is tested: the page, room for the tables, and that the first cell is 0
 abbrev right : Layout → Bool
@@ -105,20 +103,17 @@ module _ (L : Layout) (K : Known L) where
   page-made : made L ≡ pageBytes L
   page-made = same-bytes (made L) (pageBytes L) (is-true _ (found .0))
 
-  -- from step to step: the constant tables, the page with the first, with two and with all three of them
-  pub page-steps : (and orr xor one two three : List ℕ) → and ≡ entries (L .spaced) And → orr ≡ entries (L .spaced) Orr → xor ≡ entries (L .spaced) Xor
-      → one ≡ copied (L .one) and 0 (replicate 256 0) 16 → two ≡ copied (L .one) orr (L .orr) one 16 → three ≡ copied (L .one) xor (L .xor) two 16
-      → set (set three 240 (L .zero)) 241 (L .one) ≡ pageBytes L
-  page-steps and orr xor one two three ea eo ex e1 e2 e3 = rw (e3, e2, e1, ea, eo, ex) page-made
+  -- from the constant tables
+  pub page-of-tables : (and orr xor page : List ℕ) → and ≡ entries (L .spaced) And → orr ≡ entries (L .spaced) Orr → xor ≡ entries (L .spaced) Xor
+      → page ≡ copied L and orr xor (replicate 256 0) 16 → set (set page 240 (L .zero)) 241 (L .one) ≡ pageBytes L
+  page-of-tables and orr xor page ea eo ex e = rw (e, ea, eo, ex) page-made
 
   pub one-small : L .one ≤ 4
   one-small = found .1
 
-  pub orr-fits : L .orr + 15 * L .one < 256
-  orr-fits = found .2
-
-  pub xor-fits : L .xor + 15 * L .one < 256
-  xor-fits = found .3
+  -- where an entry stands
+  pub entry-fits : (k : ℕ) → k < 16 → (L .one * k < 256) × (L .orr + L .one * k < 256) × (L .xor + L .one * k < 256)
+  entry-fits k h = let w : L .one * k ≤ L .one * 15 = mul-le-mul-left (L .one) (omega arith) in omega (arith, found .2, found .3)
 
   -- below the table page nothing but 0 is fixed
   pub low-fixed : (i : ℕ) → i < 288 → 0 ≡ fixed L i

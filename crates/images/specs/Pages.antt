@@ -1,9 +1,10 @@
 -- The table page of an image, as it is made: the constant tables are those of position 0, and each entry of them is scaled and placed by the
 -- layout. Assumes nothing.
+use mathlib.Core.Path.{_≡_}
 use mathlib.Core.Bool.{Bool, cond}
 use mathlib.Core.List.{List}
-use Prim.Native.Nat.{ℕ, zero, suc, _+_, _*_}
-use lib.ListN.{getD, replicate, set}
+use Prim.Native.Nat.{ℕ, zero, suc, _+_, _*_, _≤_}
+use lib.ListN.{length, getD, replicate, set}
 use Rattle.model.specs.declared.Layout.{Layout}
 use Rattle.model.specs.declared.Opcode.{Opcode}
 use Rattle.model.specs.Layouts.{layoutOf}
@@ -15,10 +16,16 @@ unfoldable pub entries : Bool → Opcode → List ℕ
 unfolding mapAt entry
 entries spaced op = mapAt (λ i x. entry (layoutOf 0 (cond spaced 1 0)) op i) 0 (replicate 16 0)
 
--- the first k entries of a table copied into a page from `at` on, each u times as great, and u apart
-unfoldable pub copied : ℕ → List ℕ → ℕ → List ℕ → ℕ → List ℕ
-copied u table at page zero = page
-copied u table at page (suc k) = set (copied u table at page k) (at + u * k) (u * getD table k 0)
+-- 16 entries that can be scaled by 4 and stay bytes
+abbrev pub Small : List ℕ → Type 0
+Small table = (length table ≡ 16) × ((k : ℕ) → getD table k 0 ≤ 4)
+
+-- the first k entries of the three tables copied into a page, each to its place in the layout and as many times as great
+unfoldable pub copied : Layout → List ℕ → List ℕ → List ℕ → List ℕ → ℕ → List ℕ
+copied L and orr xor page zero = page
+copied L and orr xor page (suc k) =
+    let at = L .one * k in
+    set (set (set (copied L and orr xor page k) at (L .one * getD and k 0)) (L .orr + at) (L .one * getD orr k 0)) (L .xor + at) (L .one * getD xor k 0)
 
 -- the bytes of the table page
 unfoldable pub pageBytes : Layout → List ℕ

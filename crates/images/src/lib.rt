@@ -12,7 +12,7 @@ ghost use Rattle.model.specs.Answers.{report, outcome};
 ghost use Rattle.model.specs.Layouts.{Known};
 ghost use Rattle.model.specs.Images.{image as imageOf, back as backOf};
 ghost use Rattle.model.specs.Images.{bitRight, imageRight, every, imageIn, bitsIn, toImageOutcome, fromImageOutcome};
-ghost use Rattle.images.specs.Pages.{entries, copied, pageBytes};
+ghost use Rattle.images.specs.Pages.{entries, Small, copied, pageBytes};
 ghost use Rattle.images.specs.Ranges.{either, onPage, between, shifted, chosen, filled};
 use model::Answer;
 use model::Layout;
@@ -58,15 +58,24 @@ fn xor_table(spaced: bool) -> [u8; TABLE]
     if spaced { SPACED_XOR } else { XOR }
 }
 
-// Copies a table of position 0 into a page from `at` on, each entry scaled by the code of 1, and as far from the next.
-fn put_table(one: u8, table: &[u8; TABLE], at: usize, page: &mut [u8; PAGE])
-    requires { ⌜ (one ≤ 4) × (at + 15 * one < 256) × ((k : ℕ) → getD (now table) k 0 ≤ 4) × (length (now table) ≡ 16) × (length (now page) ≡ 256) ⌝ }
-    ensures { λ r. ⌜ now (page .exit) ≡ copied one (now (table .entry)) at (now (page .entry)) 16 ⌝ }
+// Copies the three tables of position 0 into a page, each from where the layout has it: each entry scaled by the code of 1, and as far from
+// the next.
+fn put_tables(
+    layout: Layout,
+    and: &[u8; TABLE],
+    orr: &[u8; TABLE],
+    xor: &[u8; TABLE],
+    page: &mut [u8; PAGE],
+)
+    requires { ⌜ Known layout × Small (now and) × Small (now orr) × Small (now xor) × (length (now page) ≡ 256) ⌝ }
+    ensures { λ r. ⌜ now (page .exit) ≡ copied layout (now (and .entry)) (now (orr .entry)) (now (xor .entry)) (now (page .entry)) 16 ⌝ }
 {
-    let apart = one as usize;
     let mut k = 0;
     while k < TABLE {
-        page[at + apart * k] = one * table[k];
+        let at = (layout.one as usize) * k;
+        page[at] = layout.one * and[k];
+        page[(layout.orr as usize) + at] = layout.one * orr[k];
+        page[(layout.xor as usize) + at] = layout.one * xor[k];
         k += 1;
     }
 }
@@ -81,9 +90,7 @@ fn page_of(layout: Layout) -> [u8; PAGE]
     let and = and_table(spaced);
     let orr = orr_table(spaced);
     let xor = xor_table(spaced);
-    put_table(layout.one, &and, 0, &mut page);
-    put_table(layout.one, &orr, layout.orr as usize, &mut page);
-    put_table(layout.one, &xor, layout.xor as usize, &mut page);
+    put_tables(layout, &and, &orr, &xor, &mut page);
     page[CODES] = layout.zero;
     page[CODES + 1] = layout.one;
     page
