@@ -7,3 +7,4 @@ pub mod PieceWrites
 pub mod StartTable
 pub mod JoinedParts
 pub mod Outcomes
+pub mod UsualOperands

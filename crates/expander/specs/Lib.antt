@@ -1,3 +1,4 @@
 pub mod Opcodes
 pub mod Starts
+pub mod Usual
 pub mod Writes

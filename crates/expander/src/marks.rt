@@ -1,11 +1,14 @@
 // Conditions 10 to 16 of a line, of which 13 no longer occurs, and the mark check of a program whose numbers are lines. The tests are made
 // on the stored numbers themselves, by the ranges that decode them; no line is made.
 ghost use mathlib.Core.Path.{_≡_};
+ghost use mathlib.Core.Bool.{true, false};
+ghost use Prim.Native.Nat.{ℕ};
 ghost use Rattle.model.specs.Answers.{report};
 ghost use Rattle.model.specs.Places.{kindOf, isPublic};
 ghost use Rattle.model.specs.Stored.{markOf, operandOf, targetOf, lineOf, lineAt, lines};
-ghost use Rattle.model.specs.Marks.{isReserved, hasSensitiveBase, isNoBit, hasMacro, isAbove, isMarked, readsSensitive};
-ghost use Rattle.model.specs.Marks.{holds10, holds11, holds12, holds14, holds15, holds16, markFault, marksOf};
+ghost use Rattle.model.specs.Marks.{isReserved, isNoBit, hasMacro, isAbove, isMarked, readsSensitive};
+ghost use Rattle.model.specs.Marks.{holds10, holds11, holds14, holds15, holds16, markFault, marksOf};
+ghost use Rattle.expander.specs.Usual.{usual, allUsual};
 use coding::CELLS;
 use coding::LITERALS;
 use coding::PUBLICS;
@@ -89,20 +92,26 @@ fn is_reserved(code: u16) -> bool
     true
 }
 
-// r16 to r31 as a base.
-fn has_sensitive_base(code: u16) -> bool
-    ensures { λ r. ⌜ r ≡ hasSensitiveBase (operandOf code) ⌝ }
+// Neither reserved nor with r16 to r31 as a base. Almost every operand is; told at once, that spares two tests of each.
+fn is_usual(code: u16) -> bool
+    ensures { λ r. ⌜ r ≡ usual (operandOf code) ⌝ }
 {
+    if code < REGISTERS {
+        return true;
+    }
+    if code < CELLS {
+        return 4 <= code - REGISTERS;
+    }
     if code < PUBLICS {
-        return false;
+        return code - CELLS <= 255;
     }
     if code < SENSITIVES {
-        return coding::is_sensitive(coding::kind_at(((code - PUBLICS) / 128) as usize));
+        return coding::is_public(coding::kind_at(((code - PUBLICS) / 128) as usize));
     }
     if code < TABLES {
-        return coding::is_sensitive(coding::kind_at(((code - SENSITIVES) / 128) as usize));
+        return coding::is_public(coding::kind_at(((code - SENSITIVES) / 128) as usize));
     }
-    coding::is_sensitive(coding::kind_at(((code - TABLES) / 256) as usize))
+    false
 }
 
 // A literal above 1.
@@ -181,21 +190,6 @@ fn holds11(m: u16, d: u16) -> bool
     coding::is_sensitive(kind_of(d))
 }
 
-fn holds12(m: u16, d: u16, a: u16, b: u16) -> bool
-    ensures { λ r. ⌜ r ≡ holds12 (lineOf m 0 d a b 0) ⌝ }
-{
-    if reads_sensitive(m, a, b) {
-        return true;
-    }
-    if has_sensitive_base(d) {
-        return true;
-    }
-    if has_sensitive_base(a) {
-        return true;
-    }
-    has_sensitive_base(b)
-}
-
 fn holds14(m: u16, o: u16) -> bool
     ensures { λ r. ⌜ r ≡ holds14 (lineOf m o 0 0 0 0) ⌝ }
 {
@@ -223,9 +217,21 @@ fn holds16(count: u16, t: u16) -> bool
     is_above(count, t)
 }
 
-// The lowest of the conditions 10 to 16 that six numbers break in a program of so many lines; 0 for none.
-fn mark_fault(count: u16, m: u16, o: u16, d: u16, a: u16, b: u16, t: u16) -> u8
-    ensures { λ r. ⌜ r ≡ markFault count (lineOf m o d a b t) ⌝ }
+fn are_usual(d: u16, a: u16, b: u16) -> bool
+    ensures { λ r. ⌜ r ≡ allUsual (operandOf d) (operandOf a) (operandOf b) ⌝ }
+{
+    if is_usual(d) {
+        if is_usual(a) {
+            return is_usual(b);
+        }
+    }
+    false
+}
+
+// The lowest of the conditions that a line with another operand breaks: a reserved place gives 10, a sensitive base 12, with 11 between.
+fn other_fault(m: u16, d: u16, a: u16, b: u16) -> u8
+    requires { ⌜ allUsual (operandOf d) (operandOf a) (operandOf b) ≡ false ⌝ }
+    ensures { λ r. ⌜ ((n o t : ℕ) → r ≡ markFault n (lineOf m o d a b t)) ⌝ }
 {
     if holds10(d, a, b) {
         return 10;
@@ -233,7 +239,18 @@ fn mark_fault(count: u16, m: u16, o: u16, d: u16, a: u16, b: u16, t: u16) -> u8
     if holds11(m, d) {
         return 11;
     }
-    if holds12(m, d, a, b) {
+    12
+}
+
+// The lowest of the conditions that one without breaks; 0 for none.
+fn usual_fault(count: u16, m: u16, o: u16, d: u16, a: u16, b: u16, t: u16) -> u8
+    requires { ⌜ allUsual (operandOf d) (operandOf a) (operandOf b) ≡ true ⌝ }
+    ensures { λ r. ⌜ r ≡ markFault count (lineOf m o d a b t) ⌝ }
+{
+    if holds11(m, d) {
+        return 11;
+    }
+    if reads_sensitive(m, a, b) {
         return 12;
     }
     if holds14(m, o) {
@@ -246,6 +263,16 @@ fn mark_fault(count: u16, m: u16, o: u16, d: u16, a: u16, b: u16, t: u16) -> u8
         return 16;
     }
     0
+}
+
+// The lowest of the conditions 10 to 16 that six numbers break in a program of so many lines; 0 for none.
+fn mark_fault(count: u16, m: u16, o: u16, d: u16, a: u16, b: u16, t: u16) -> u8
+    ensures { λ r. ⌜ r ≡ markFault count (lineOf m o d a b t) ⌝ }
+{
+    if are_usual(d, a, b) {
+        return usual_fault(count, m, o, d, a, b, t);
+    }
+    other_fault(m, d, a, b)
 }
 
 // The same of line i of a stored program.
