@@ -1,14 +1,13 @@
 -- What the conditions say of a line, by whether all its operands are usual. Assumes nothing.
-use mathlib.Core.Path.{_≡_, refl, sym}
+use mathlib.Core.Path.{_≡_, refl, sym, _∙_}
 use mathlib.Core.Bool.{Bool, true, false, not, _&&_, _||_, false≢true}
-use Prim.Native.Nat.{ℕ, _-_, _/_, _≤_, _<_}
+use Prim.Native.Nat.{ℕ, _+_, _-_, _/_, _%_, _≤_, _<_}
 use native.Mathlib.Omega.{arith}
 use borrow.Author.Tests.{lt-ltb, le-ltb, le-leb, lt-leb}
 use lib.Dec.{ltb, leb}
-use Rattle.model.specs.declared.Kind.the-variants.{Neither, Public, Sensitive}
 use Rattle.model.specs.declared.Line.{Line}
 use Rattle.model.specs.declared.Operand.{Operand}
-use Rattle.model.specs.Places.{kind, isPublic, isSensitive}
+use Rattle.model.specs.Places.{kind, isSensitive}
 use Rattle.model.specs.Stored.{registers, cells, publics, sensitives, tables, operandOf}
 use Rattle.model.specs.Marks.{isReserved, hasSensitiveBase, readsSensitive, holds10, holds12}
 use Rattle.model.proofs.TestLaws.{below}
@@ -18,11 +17,11 @@ use Rattle.expander.specs.Usual.{usual, allUsual}
 -- ---- an operand, by the range of its number
 
 -- a base: r4 to r15
-base-usual : (r : ℕ) → r < 32 → isPublic (kind r) ≡ not (ltb r 4 || isSensitive (kind r))
+base-usual : (r : ℕ) → r < 32 → (leb 4 r && ltb r 16) ≡ not (ltb r 4 || isSensitive (kind r))
 unfolding kind
 base-usual r h =
-    below r 4 (λ l. rw (lt-ltb r 4 l))
-    (λ g. below r 16 (λ l. rw (le-ltb r 4 g, lt-ltb r 16 l)) (λ k. rw (le-ltb r 4 g, le-ltb r 16 k, lt-ltb r 32 h)))
+    below r 4 (λ l. rw (lt-ltb r 4 l, lt-leb 4 r l))
+    (λ g. below r 16 (λ l. rw (le-ltb r 4 g, le-leb 4 r g, lt-ltb r 16 l)) (λ k. rw (le-ltb r 4 g, le-leb 4 r g, le-ltb r 16 k, lt-ltb r 32 h)))
 
 not-below : (m n : ℕ) → leb m n ≡ not (ltb n m)
 not-below m n = below n m (λ l. rw (lt-ltb n m l, lt-leb m n l)) (λ g. rw (le-ltb n m g, le-leb m n g))
@@ -32,25 +31,25 @@ plain true = refl
 plain false = refl
 
 module _ (n : ℕ) where
-  pub low-usual : n < registers → true ≡ usual (operandOf n)
+  pub low-usual : n < cells → (ltb n registers || leb (registers + 4) n) ≡ usual (operandOf n)
   unfolding isReserved hasSensitiveBase
-  low-usual h = low-form n (λ o. true ≡ usual o) h refl (λ k. refl)
-
-  pub register-usual : registers ≤ n → n < cells → leb 4 (n - registers) ≡ usual (operandOf n)
-  unfolding isReserved hasSensitiveBase
-  register-usual g l = rw (register n g l, not-below 4 (n - registers)) (plain (ltb (n - registers) 4))
+  low-usual h =
+      below n registers (λ l. rw (lt-ltb n registers l) (low-form n (λ o. true ≡ usual o) l refl (λ k. refl)))
+      (λ g. rw (le-ltb n registers g, register n g h)
+      (below n (registers + 4) (λ l. rw (lt-leb (registers + 4) n l, lt-ltb (n - registers) 4 (omega arith)))
+      (λ k. rw (le-leb (registers + 4) n k, le-ltb (n - registers) 4 (omega arith)))))
 
   pub cell-usual : cells ≤ n → n < publics → leb (n - cells) 255 ≡ usual (operandOf n)
   unfolding isReserved hasSensitiveBase
   cell-usual g l = rw (cell n g l, not-below (n - cells) 255) (plain (ltb 255 (n - cells)))
 
-  pub public-usual : publics ≤ n → n < sensitives → isPublic (kind ((n - publics) / 128)) ≡ usual (operandOf n)
+  pub indirect-usual : publics ≤ n → n < tables → let r = (n - publics) / 128 % 32 in (leb 4 r && ltb r 16) ≡ usual (operandOf n)
   unfolding isReserved hasSensitiveBase
-  public-usual g l = rw (public-cell n g l) (base-usual ((n - publics) / 128) (omega arith))
-
-  pub sensitive-usual : sensitives ≤ n → n < tables → isPublic (kind ((n - sensitives) / 128)) ≡ usual (operandOf n)
-  unfolding isReserved hasSensitiveBase
-  sensitive-usual g l = rw (sensitive-cell n g l) (base-usual ((n - sensitives) / 128) (omega arith))
+  indirect-usual g h =
+      let r = (n - publics) / 128 % 32 in
+      base-usual r (omega arith)
+      ∙ below n sensitives (λ l. let q : r ≡ (n - publics) / 128 = omega arith in rw (public-cell n g l, q))
+      (λ k. let q : r ≡ (n - sensitives) / 128 = omega arith in rw (sensitive-cell n k h, q))
 
   pub table-usual : tables ≤ n → false ≡ usual (operandOf n)
   unfolding isReserved hasSensitiveBase

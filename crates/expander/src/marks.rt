@@ -96,20 +96,16 @@ fn is_reserved(code: u16) -> bool
 fn is_usual(code: u16) -> bool
     ensures { λ r. ⌜ r ≡ usual (operandOf code) ⌝ }
 {
-    if code < REGISTERS {
-        return true;
-    }
     if code < CELLS {
-        return 4 <= code - REGISTERS;
+        return (code < REGISTERS) | (REGISTERS + 4 <= code);
     }
     if code < PUBLICS {
         return code - CELLS <= 255;
     }
-    if code < SENSITIVES {
-        return coding::is_public(coding::kind_at(((code - PUBLICS) / 128) as usize));
-    }
     if code < TABLES {
-        return coding::is_public(coding::kind_at(((code - SENSITIVES) / 128) as usize));
+        // The base of `!` and of `%`, which have 32 times 128 numbers each.
+        let base = ((code - PUBLICS) / 128) % 32;
+        return (4 <= base) & (base < 16);
     }
     false
 }
