@@ -8,3 +8,4 @@ pub mod StartTable
 pub mod JoinedParts
 pub mod Outcomes
 pub mod UsualOperands
+pub mod OpcodeNumbers

@@ -12,12 +12,7 @@ use Rattle.model.specs.declared.Line.{Line}
 use Rattle.model.specs.Stored.{opcodeOf, operandOf, lineAt}
 use Rattle.model.specs.Expansion.{coded, macro, partOf, part, retarget, size}
 use Rattle.coding.specs.Fields.{numbersAt}
-use Rattle.expander.specs.Opcodes.{unary}
 use Rattle.expander.proofs.PartNumbers.{unmarked, marked}
-
--- an opcode's arm
-pub at-unary : (L : Layout) (o o′ : Opcode) (n : ℕ) (d a : Operand) → o ≡ o′ → n ≡ length (unary L o′ d a) → n ≡ length (unary L o d a)
-at-unary L o o′ n d a e h = rw e h
 
 module _ (L : Layout) (l : Line) (f : ℕ → ℕ) where
   pub plain-part : l .mark ≡ Unmarked → part L f l ≡ retarget f l ∷ []

@@ -8,7 +8,7 @@ ghost use lib.ListN.{length};
 ghost use Rattle.model.specs.declared.Layout.{Layout};
 ghost use Rattle.model.specs.declared.Operand.{Operand};
 ghost use Rattle.model.specs.declared.Target.{Target};
-ghost use Rattle.model.specs.Stored.{targetCode, operandOf, lineAt};
+ghost use Rattle.model.specs.Stored.{targetCode, opcodeOf, operandOf, lineAt};
 ghost use Rattle.model.specs.Expansion.{coded, markedLine, move, precharged, codeBit, load, scale, combine, fetch, flip, writeBack, lookup, negate, copy, macro, size};
 ghost use Rattle.expander.specs.Opcodes.{hasTable, tableOf, unary};
 ghost use Rattle.expander.specs.Writes.{lineWith, Wrote};
@@ -321,32 +321,24 @@ fn lookup_size(layout: Layout, a: u16, b: u16) -> u16
     load_size(a) + scale_size(layout) + load_size(b) + 6
 }
 
-// Of not a load, the flip and two lines to write back, of mov a load and those two; an opcode without a macro has none.
-fn unary_size(o: Opcode, a: u16) -> u16
-    ensures { λ r. ⌜ ((L : Layout) (d : Operand) → r ≡ length (unary L o d (coded L (operandOf a)))) ⌝ }
+// Of not, number 2, a load, the flip and two lines to write back, of mov, number 3, a load and those two; an opcode without a macro has none.
+fn unary_size(o: u16, a: u16) -> u16
+    ensures { λ r. ⌜ ((L : Layout) (d : Operand) → r ≡ length (unary L (opcodeOf o) d (coded L (operandOf a)))) ⌝ }
 {
-    match o {
-        Opcode::Nop => 0,
-        Opcode::Jmp => 0,
-        Opcode::Not => load_size(a) + 3,
-        Opcode::Mov => load_size(a) + 2,
-        Opcode::And => 0,
-        Opcode::Orr => 0,
-        Opcode::Xor => 0,
-        Opcode::Lsl => 0,
-        Opcode::Lsr => 0,
-        Opcode::Add => 0,
-        Opcode::Mul => 0,
-        Opcode::Beq => 0,
-        Opcode::Bne => 0,
+    if o == 2 {
+        return load_size(a) + 3;
     }
+    if o == 3 {
+        return load_size(a) + 2;
+    }
+    0
 }
 
-// The lines of an opcode's macro with the arguments that these become, whatever its destination is.
-fn macro_size(layout: Layout, o: Opcode, a: u16, b: u16) -> u16
-    ensures { λ r. ⌜ ((d : Operand) → r ≡ length (macro layout o d (coded layout (operandOf a)) (coded layout (operandOf b)))) ⌝ }
+// The lines of the macro of an opcode's number with the arguments that these become, whatever its destination is. and, orr and xor are 4 to 6.
+fn macro_size(layout: Layout, o: u16, a: u16, b: u16) -> u16
+    ensures { λ r. ⌜ ((d : Operand) → r ≡ length (macro layout (opcodeOf o) d (coded layout (operandOf a)) (coded layout (operandOf b)))) ⌝ }
 {
-    if has_table(o) {
+    if (4 <= o) & (o < 7) {
         return lookup_size(layout, a, b);
     }
     unary_size(o, a)
@@ -360,5 +352,5 @@ pub fn size_at(layout: Layout, program: &[u16], i: usize) -> u16
     if n[0] == 0 {
         return 1;
     }
-    macro_size(layout, coding::opcode_of(n[1]), n[3], n[4])
+    macro_size(layout, n[1], n[3], n[4])
 }

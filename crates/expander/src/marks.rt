@@ -5,7 +5,7 @@ ghost use mathlib.Core.Bool.{true, false};
 ghost use Prim.Native.Nat.{ℕ};
 ghost use Rattle.model.specs.Answers.{report};
 ghost use Rattle.model.specs.Places.{kindOf, isPublic};
-ghost use Rattle.model.specs.Stored.{markOf, operandOf, targetOf, lineOf, lineAt, lines};
+ghost use Rattle.model.specs.Stored.{markOf, opcodeOf, operandOf, targetOf, lineOf, lineAt, lines};
 ghost use Rattle.model.specs.Marks.{isReserved, isNoBit, hasMacro, isAbove, isMarked, readsSensitive};
 ghost use Rattle.model.specs.Marks.{holds10, holds11, holds14, holds15, holds16, markFault, marksOf};
 ghost use Rattle.expander.specs.Usual.{usual, allUsual};
@@ -19,7 +19,6 @@ use model::Answer;
 use model::Kind;
 use model::LINE_WIDTH;
 use model::MAX_ACCEPTED;
-use model::Opcode;
 
 // ---- what the conditions ask of a mark, an operand, an opcode and a target
 
@@ -123,24 +122,11 @@ fn is_no_bit(code: u16) -> bool
     false
 }
 
-fn has_macro(opcode: Opcode) -> bool
-    ensures { λ r. ⌜ r ≡ hasMacro opcode ⌝ }
+// Whether the opcode of a number has a macro: not, mov, and, orr, xor.
+fn has_macro(o: u16) -> bool
+    ensures { λ r. ⌜ r ≡ hasMacro (opcodeOf o) ⌝ }
 {
-    match opcode {
-        Opcode::Nop => false,
-        Opcode::Jmp => false,
-        Opcode::Not => true,
-        Opcode::Mov => true,
-        Opcode::And => true,
-        Opcode::Orr => true,
-        Opcode::Xor => true,
-        Opcode::Lsl => false,
-        Opcode::Lsr => false,
-        Opcode::Add => false,
-        Opcode::Mul => false,
-        Opcode::Beq => false,
-        Opcode::Bne => false,
-    }
+    (2 <= o) & (o < 7)
 }
 
 // A target's number is 1 more than its line, and 0 for no target: one test tells both.
@@ -181,7 +167,7 @@ fn holds11(m: u16, d: u16) -> bool
     ensures { λ r. ⌜ r ≡ holds11 (lineOf m 0 d 0 0 0) ⌝ }
 {
     if is_marked(m) {
-        return coding::is_public(kind_of(d));
+        return names_public(d);
     }
     coding::is_sensitive(kind_of(d))
 }
@@ -190,7 +176,7 @@ fn holds14(m: u16, o: u16) -> bool
     ensures { λ r. ⌜ r ≡ holds14 (lineOf m o 0 0 0 0) ⌝ }
 {
     if is_marked(m) {
-        return !has_macro(coding::opcode_of(o));
+        return !has_macro(o);
     }
     false
 }

@@ -16,28 +16,25 @@ returns c =
     let s = c .before .before .before in
     plain-length (s .args .layout) (s .args .program .now) _ (s .args .i) (c .before .numbers-at .ensures) (c .if1 .taken)
 
-array-read-opcode-of : tie.Need-array-read-opcode-of
-array-read-opcode-of c = search needs
-
-opcode-of-requires : tie.Need-opcode-of-requires
-opcode-of-requires c κs = search needs
-
 array-read-macro-size : tie.Need-array-read-macro-size
 array-read-macro-size c = search needs
 
 array-read-macro-size-2 : tie.Need-array-read-macro-size-2
 array-read-macro-size-2 c = search needs
 
+array-read-macro-size-3 : tie.Need-array-read-macro-size-3
+array-read-macro-size-3 c = search needs
+
 macro-size-requires : tie.Need-macro-size-requires
 macro-size-requires c κs = search needs
 
 returns-2 : tie.Need-returns-2
 returns-2 c =
-    let o = c .before in
-    let n = o .before .before in
+    let i = c .before in
+    let n = i .before in
     let s = n .before .before in
     c .macro-size .ensures _
-    ∙ marked-length (s .args .layout) (s .args .program .now) _ (s .args .i) (n .numbers-at .ensures) _ _ _ (o .opcode-of .ensures) (o .before .if1 .left) refl refl
+    ∙ marked-length (s .args .layout) (s .args .program .now) _ (s .args .i) (n .numbers-at .ensures) _ _ _ refl (i .if1 .left) refl refl
 
 pub size-at-spec : {M : Type 1} → statement M
 size-at-spec =
@@ -46,9 +43,8 @@ size-at-spec =
     numbers-at-requires
     array-read-if1
     returns
-    array-read-opcode-of
-    opcode-of-requires
     array-read-macro-size
     array-read-macro-size-2
+    array-read-macro-size-3
     macro-size-requires
     returns-2)

@@ -7,34 +7,30 @@ use Rattle.expander.proofs.marks.holds11.Tie as tie
 is-marked-requires : tie.Need-is-marked-requires
 is-marked-requires c κs = search needs
 
-kind-of-requires : tie.Need-kind-of-requires
-kind-of-requires c κs = search needs
-
-is-public-requires : tie.Need-is-public-requires
-is-public-requires c κs = search needs
+names-public-requires : tie.Need-names-public-requires
+names-public-requires c κs = search needs
 
 returns : tie.Need-returns
 unfolding holds11
-returns c = rw (← c .before .before .before .is-marked .ensures, c .before .before .if1 .taken, ← c .before .kind-of .ensures) (c .is-public .ensures)
+returns c = rw (← c .before .before .is-marked .ensures, c .before .if1 .taken) (c .names-public .ensures)
 
-kind-of-requires-2 : tie.Need-kind-of-requires-2
-kind-of-requires-2 c κs = search needs
+kind-of-requires : tie.Need-kind-of-requires
+kind-of-requires c κs = search needs
 
 is-sensitive-requires : tie.Need-is-sensitive-requires
 is-sensitive-requires c κs = search needs
 
 returns-2 : tie.Need-returns-2
 unfolding holds11
-returns-2 c = rw (← c .before .before .before .is-marked .ensures, c .before .before .if1 .left, ← c .before .kind-of2 .ensures) (c .is-sensitive .ensures)
+returns-2 c = rw (← c .before .before .before .is-marked .ensures, c .before .before .if1 .left, ← c .before .kind-of .ensures) (c .is-sensitive .ensures)
 
 pub holds11-spec : {M : Type 1} → statement M
 holds11-spec =
     tie.close
     (tie.spec
     is-marked-requires
-    kind-of-requires
-    is-public-requires
+    names-public-requires
     returns
-    kind-of-requires-2
+    kind-of-requires
     is-sensitive-requires
     returns-2)

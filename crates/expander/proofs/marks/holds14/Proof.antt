@@ -9,15 +9,12 @@ use Rattle.expander.proofs.marks.holds14.Tie as tie
 is-marked-requires : tie.Need-is-marked-requires
 is-marked-requires c κs = search needs
 
-opcode-of-requires : tie.Need-opcode-of-requires
-opcode-of-requires c κs = search needs
-
 has-macro-requires : tie.Need-has-macro-requires
 has-macro-requires c κs = search needs
 
 returns : tie.Need-returns
 unfolding holds14
-returns c = rw (← c .before .before .before .is-marked .ensures, c .before .before .if1 .taken, ← c .before .opcode-of .ensures) (ap not (c .has-macro .ensures))
+returns c = rw (← c .before .before .is-marked .ensures, c .before .if1 .taken) (ap not (c .has-macro .ensures))
 
 returns-2 : tie.Need-returns-2
 unfolding holds14
@@ -25,4 +22,4 @@ returns-2 c = rw (← c .before .is-marked .ensures, c .if1 .left)
 
 pub holds14-spec : {M : Type 1} → statement M
 holds14-spec =
-    tie.close (tie.spec is-marked-requires opcode-of-requires has-macro-requires returns returns-2)
+    tie.close (tie.spec is-marked-requires has-macro-requires returns returns-2)
