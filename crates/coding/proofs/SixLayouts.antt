@@ -4,7 +4,6 @@ use mathlib.Core.Bool.{true, false}
 use Prim.Native.Nat.{ℕ, zero, suc, _*_, _^_, _≤_, _<_}
 use borrow.Author.Tests.{lt-ltb, le-ltb}
 use lib.Dec.{ltb, ltb→lt}
-use Rattle.model.specs.declared.Layout.{Layout}
 use Rattle.model.specs.Layouts.{layoutOf, isSix}
 use Rattle.model.proofs.TestLaws.{holds, and-both}
 

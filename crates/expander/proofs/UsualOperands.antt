@@ -6,7 +6,6 @@ use native.Mathlib.Omega.{arith}
 use borrow.Author.Tests.{lt-ltb, le-ltb, le-leb, lt-leb}
 use lib.Dec.{ltb, leb}
 use Rattle.model.specs.declared.Line.{Line}
-use Rattle.model.specs.declared.Operand.{Operand}
 use Rattle.model.specs.Places.{kind, isSensitive}
 use Rattle.model.specs.Stored.{registers, cells, publics, sensitives, tables, operandOf}
 use Rattle.model.specs.Marks.{isReserved, hasSensitiveBase, readsSensitive, holds10, holds12}

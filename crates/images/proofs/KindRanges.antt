@@ -1,20 +1,18 @@
 -- A state by the ranges of its kinds: what a bit state, an image and the way back have in each of them. Assumes nothing.
-use mathlib.Core.Path.{_≡_, refl, sym, ap, _∙_}
+use mathlib.Core.Path.{_≡_, refl, sym, _∙_}
 use mathlib.Core.Bool.{Bool, true, false, cond, _&&_, _||_}
 use mathlib.Core.List.{List}
-use Prim.Native.Nat.{ℕ, zero, suc, _+_, _-_, _≤_, _<_}
+use Prim.Native.Nat.{ℕ, zero, suc, _-_, _≤_, _<_}
 use native.Mathlib.Omega.{arith}
 use borrow.Author.Tests.{lt-ltb, le-ltb, lt-leb, eq-eqb, ne-eqb}
-use lib.Dec.{eqb, leb, ltb}
+use lib.Dec.{eqb, leb}
 use lib.ListN.{length, getD, drop}
 use Rattle.model.specs.declared.Layout.{Layout}
-use Rattle.model.specs.declared.Kind.{Kind}
 use Rattle.model.specs.declared.Kind.the-variants.{Neither, Public, Sensitive}
 use Rattle.model.specs.Limits.{stateSize}
-use Rattle.model.specs.Layouts.{Known}
 use Rattle.model.specs.Places.{State, kind}
 use Rattle.model.specs.Code.{code}
-use Rattle.model.specs.Images.{byKind, mapAt, fixed, imageAt, image, backAt, back, bitRight, fixedRight, imageRight, every}
+use Rattle.model.specs.Images.{fixed, imageAt, image, backAt, back, bitRight, fixedRight, imageRight, every}
 use Rattle.images.specs.Pages.{pageBytes}
 use Rattle.images.specs.Ranges.{between, either, onPage, filled, shifted, chosen}
 use Rattle.images.proofs.Tables.{page-fixed, high-fixed}

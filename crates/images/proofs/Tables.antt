@@ -1,15 +1,15 @@
 -- The table page that is made of the constant tables, against the definition's: one test of all cells in each of the six layouts.
 -- Assumes nothing.
-use mathlib.Core.Path.{_≡_, refl, sym, ap, _∙_}
+use mathlib.Core.Path.{_≡_, sym, ap, _∙_}
 use mathlib.Core.List.{List, [], _∷_}
 use mathlib.Core.Bool.{Bool, true, false, cond, _&&_}
 use Prim.Native.Nat.{ℕ, zero, suc, _+_, _-_, _*_, _≤_, _<_}
 use native.Mathlib.Nat.{zero-add, mul-le-mul, mul-le-mul-left}
 use native.Mathlib.Numerals.{add-one}
 use native.Mathlib.Omega.{arith}
-use borrow.Author.Tests.{lt-ltb, le-ltb}
-use lib.Dec.{T, eqb, ltb, leb, leb→le, ltb→lt, eqb→eq}
-use lib.ListN.{length, getD, replicate, set, length-set}
+use borrow.Author.Tests.{le-ltb}
+use lib.Dec.{T, eqb, ltb, leb, leb→le, ltb→lt}
+use lib.ListN.{length, getD, replicate, set}
 use Rattle.model.specs.declared.Layout.{Layout}
 use Rattle.model.specs.Limits.{stateSize}
 use Rattle.model.specs.Layouts.{layoutOf, Known}
@@ -19,7 +19,7 @@ use Rattle.model.specs.Code.{code, entry, page}
 use Rattle.model.specs.declared.Opcode.{Opcode}
 use Rattle.model.specs.declared.Opcode.the-variants.{And, Orr, Xor}
 use Rattle.model.specs.Images.{mapAt, fixed, fixedRight, every}
-use Rattle.model.proofs.TestLaws.{below, is-true, and-both, allBelow, all-below}
+use Rattle.model.proofs.TestLaws.{is-true, and-both, allBelow, all-below}
 use Rattle.model.proofs.SpellingLaws.{same-bytes}
 use Rattle.model.proofs.Finite.{tableOp, forLayouts, for-layouts}
 use Rattle.model.proofs.PlaceLaws.{mapAt-length, mapAt-getD}
@@ -79,26 +79,25 @@ abbrev made : Layout → List ℕ
 made L =
     set (set (copied L (entries (L .spaced) And) (entries (L .spaced) Orr) (entries (L .spaced) Xor) (replicate 256 0) 16) 240 (L .zero)) 241 (L .one)
 
--- what is tested: the page, room for the tables, and that the first cell is 0
+-- what is tested: the page, and room for the tables
 abbrev right : Layout → Bool
-right L = sameBytes (made L) (pageBytes L) && leb (L .one) 4 && ltb (L .orr + 15 * L .one) 256 && ltb (L .xor + 15 * L .one) 256 && eqb (page L 0) 0
+right L = sameBytes (made L) (pageBytes L) && leb (L .one) 4 && ltb (L .orr + 15 * L .one) 256 && ltb (L .xor + 15 * L .one) 256
 
 tested : T (forLayouts right)
 unfolding allBelow copied entries pageBytes mapAt page entry code alu
 tested = tt
 
 module _ (L : Layout) (K : Known L) where
-  found : T (sameBytes (made L) (pageBytes L)) × (L .one ≤ 4) × (L .orr + 15 * L .one < 256) × (L .xor + 15 * L .one < 256) × (page L 0 ≡ 0)
+  found : T (sameBytes (made L) (pageBytes L)) × (L .one ≤ 4) × (L .orr + 15 * L .one < 256) × (L .xor + 15 * L .one < 256)
   found =
       let a = sameBytes (made L) (pageBytes L) in
       let b = leb (L .one) 4 in
       let c = ltb (L .orr + 15 * L .one) 256 in
       let d = ltb (L .xor + 15 * L .one) 256 in
-      let w4 = and-both (a && b && c && d) (eqb (page L 0) 0) (for-layouts right tested K) in
-      let w3 = and-both (a && b && c) d (w4 .0) in
+      let w3 = and-both (a && b && c) d (for-layouts right tested K) in
       let w2 = and-both (a && b) c (w3 .0) in
       let w1 = and-both a b (w2 .0) in
-      (w1 .0, leb→le _ _ (w1 .1), ltb→lt _ _ (w2 .1), ltb→lt _ _ (w3 .1), eqb→eq _ _ (w4 .1))
+      (w1 .0, leb→le _ _ (w1 .1), ltb→lt _ _ (w2 .1), ltb→lt _ _ (w3 .1))
 
   page-made : made L ≡ pageBytes L
   page-made = same-bytes (made L) (pageBytes L) (is-true _ (found .0))
@@ -114,11 +113,6 @@ module _ (L : Layout) (K : Known L) where
   -- where an entry stands
   pub entry-fits : (k : ℕ) → k < 16 → (L .one * k < 256) × (L .orr + L .one * k < 256) × (L .xor + L .one * k < 256)
   entry-fits k h = let w : L .one * k ≤ L .one * 15 = mul-le-mul-left (L .one) (omega arith) in omega (arith, found .2, found .3)
-
-  -- below the table page nothing but 0 is fixed
-  pub low-fixed : (i : ℕ) → i < 288 → 0 ≡ fixed L i
-  unfolding fixed
-  low-fixed i h = below i 4 (λ l. rw (lt-ltb i 4 l)) (λ g. let q : i - 288 ≡ 0 = omega arith in rw (le-ltb i 4 g, q) (sym (found .4)))
 
 pub bytes-length : (L : Layout) → length (pageBytes L) ≡ 256
 unfolding pageBytes

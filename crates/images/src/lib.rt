@@ -3,9 +3,9 @@
 ghost use mathlib.Core.Path.{_≡_};
 ghost use mathlib.Core.Bool.{cond};
 ghost use mathlib.Core.List.{[], _∷_};
-ghost use Prim.Native.Nat.{ℕ, _+_, _-_, _*_, _≤_, _<_};
+ghost use Prim.Native.Nat.{_+_, _-_, _*_, _≤_, _<_};
 ghost use lib.Dec.{eqb};
-ghost use lib.ListN.{getD, length};
+ghost use lib.ListN.{length};
 ghost use Rattle.model.specs.declared.Opcode.{Opcode};
 ghost use Rattle.model.specs.Limits.{stateSize};
 ghost use Rattle.model.specs.Answers.{report, outcome};
@@ -183,7 +183,7 @@ fn bits_right(bits: &[u8]) -> bool
 
 // Whether an image may hold them on the way back: 0 in r0, a code in sensitive places, the layout's table page; r1 to r3 hold anything.
 fn places_right(layout: Layout, page: &[u8; PAGE], image: &[u8]) -> bool
-    requires { ⌜ Known layout × (now page ≡ pageBytes layout) × (length (now image) ≡ stateSize) ⌝ }
+    requires { ⌜ (now page ≡ pageBytes layout) × (length (now image) ≡ stateSize) ⌝ }
     ensures { λ r. ⌜ r ≡ every (imageRight layout) 0 (now (image .entry)) ⌝ }
 {
     let zero = are_either(image, 0, 1, 0, 0);
@@ -195,7 +195,7 @@ fn places_right(layout: Layout, page: &[u8; PAGE], image: &[u8]) -> bool
 
 // Public places as they are, the code of each sensitive bit, the table page; r0 to r3 are 0.
 fn put_image(layout: Layout, page: &[u8; PAGE], bits: &[u8], image: &mut [u8])
-    requires { ⌜ Known layout × (now page ≡ pageBytes layout) × (length (now bits) ≡ stateSize) × (length (now image) ≡ stateSize) ⌝ }
+    requires { ⌜ (now page ≡ pageBytes layout) × (length (now bits) ≡ stateSize) × (length (now image) ≡ stateSize) ⌝ }
     ensures { λ r. ⌜ now (image .exit) ≡ imageOf layout (now (bits .entry)) ⌝ }
 {
     choose_between(bits, image, 0, R4, 0, 0, 0);

@@ -1,15 +1,13 @@
 -- Request 03: programs accepted before expand as before. Without a public argument every load has the two lines of document 01, so the pieces
 -- join to its macros; and 13 apart the conditions are the same. Assumes nothing.
-use mathlib.Core.Path.{_≡_, refl, ap, ap₂, _∙_}
-use mathlib.Core.Bool.{Bool, true, false, not}
-use mathlib.Core.List.{List, [], _∷_, _++_, flatMap}
-use Prim.Native.Nat.{ℕ, zero, suc, _+_, _≤_}
+use mathlib.Core.Path.{_≡_, refl, ap, _∙_}
+use mathlib.Core.Bool.{false, not}
+use mathlib.Core.List.{List, [], _∷_}
+use Prim.Native.Nat.{ℕ, _+_, _≤_}
 use native.Mathlib.Omega.{arith}
 use borrow.Author.Tests.{le-ltb}
 use lib.Dec.{T, nltb→le}
 use lib.ListN.{length}
-use Rattle.model.specs.declared.Mark.{Mark}
-use Rattle.model.specs.declared.Mark.the-variants.{Unmarked, Marked}
 use Rattle.model.specs.declared.Opcode.{Opcode}
 use Rattle.model.specs.declared.Opcode.the-variants.{Nop, Jmp, Not, Mov, And, Orr, Xor, Lsl, Lsr, Add, Mul, Beq, Bne}
 use Rattle.model.specs.declared.Operand.{Operand}
@@ -26,7 +24,7 @@ use Rattle.model.specs.Marks.{isAbove, holds10, holds11, holds12, holds1
 use Rattle.model.specs.Expansion.{coded, shifts, scale, combine, fetch, flip, writeBack, lookup, negate, copy, codeBit, load, macro, expand, written, expansionIn, expandOutcome}
 use Rattle.model.specs.Before.{lookupBefore, negateBefore, copyBefore, macroBefore, expandBefore, holds13, targetsBefore, Never, NoneHeld, AcceptedBefore, AsBefore}
 use Rattle.model.proofs.StoredLaws.{no-false}
-use Rattle.model.proofs.Acceptance.{mk, nor-T, clear, AllRight, accepted-right}
+use Rattle.model.proofs.Acceptance.{nor-T, clear, AllRight, accepted-right}
 use Rattle.model.proofs.Loads.{coded-kind}
 use Rattle.model.proofs.ByMacros.{expand-by}
 

@@ -1,34 +1,31 @@
 -- Request 04: neighbours at position 0 give the earlier bytes. The layout that 0 and 0 name computes to the numbers of document 01; its macros
 -- are the earlier ones by their lines, its page the earlier one by a test of all cells. Assumes nothing.
-use mathlib.Core.Path.{_≡_, refl, sym, ap, ap₂, _∙_}
-use mathlib.Core.Bool.{Bool, true, false, cond, _||_}
-use mathlib.Core.List.{List, [], _∷_, _++_, flatMap}
-use Prim.Native.Nat.{ℕ, zero, suc, _-_, _≤_, _<_}
+use mathlib.Core.Path.{_≡_, refl, sym, ap, ap₂}
+use mathlib.Core.Bool.{Bool, cond}
+use mathlib.Core.List.{List, [], _∷_, flatMap}
+use Prim.Native.Nat.{ℕ, zero, suc, _-_, _≤_}
 use native.Mathlib.Omega.{arith}
 use borrow.Author.Tests.{le-ltb, ne-eqb}
 use lib.Dec.{T, eqb, ltb, eqb→eq}
 use lib.ListN.{length, getD, replicate}
-use Rattle.model.specs.declared.Kind.{Kind}
-use Rattle.model.specs.declared.Kind.the-variants.{Neither, Public, Sensitive}
 use Rattle.model.specs.declared.Opcode.{Opcode}
 use Rattle.model.specs.declared.Opcode.the-variants.{Nop, Jmp, Not, Mov, And, Orr, Xor, Lsl, Lsr, Add, Mul, Beq, Bne}
 use Rattle.model.specs.declared.Operand.{Operand}
 use Rattle.model.specs.declared.Line.{Line}
 use Rattle.model.specs.Limits.{stateSize, maxLines}
-use Rattle.model.specs.Answers.{Outcome, outcome, counted, refused, unlessRefused}
-use Rattle.model.specs.Places.{State, kind}
+use Rattle.model.specs.Answers.{unlessRefused}
+use Rattle.model.specs.Places.{State}
 use Rattle.model.specs.Lines.{Every}
 use Rattle.model.specs.Stored.{lines}
 use Rattle.model.specs.Step.{alu}
 use Rattle.model.specs.Layouts.{layoutOf, neighbours}
-use Rattle.model.specs.Code.{code, codeTable, entry, page}
-use Rattle.model.specs.Images.{byKind, mapAt, fixed, imageAt, image, backAt, back, bitRight, fixedRight, imageRight, every, carried, toImageOutcome, fromImageOutcome}
+use Rattle.model.specs.Code.{code, entry, page}
+use Rattle.model.specs.Images.{mapAt, fixed, imageAt, image, backAt, back, bitRight, fixedRight, imageRight, every, carried}
 use Rattle.model.specs.Marks.{markCheck}
 use Rattle.model.specs.Expansion.{shifts, scale, combine, fetch, flip, writeBack, lookup, negate, copy, macro, expand, written, expansionIn, expandOutcome}
 use Rattle.model.specs.Programs.{inputSize, traceBudget, refusalText, orRefusal, traceText, printed, expandPrints, tracePrints}
 use Rattle.model.specs.Run.{run}
 use Rattle.model.specs.Text.{spellLine, reading}
-use Rattle.model.specs.Before.{expandBy}
 use Rattle.model.specs.Earlier.{codeEarlier, pageEarlier, fixedEarlier, imageEarlier, backEarlier, rightEarlier, lookupEarlier, negateEarlier, copyEarlier, macroEarlier, expandEarlier, EarlierBytes}
 use Rattle.model.proofs.TestLaws.{below, allBelow, all-below}
 use Rattle.model.proofs.ByMacros.{expand-by}

@@ -1,6 +1,6 @@
 -- `images::are_either` meets its contract. The loop's invariant: `good` is the test of the places before i. Assumes nothing.
 use Prim.Native.Nat.{_≤_, _-_}
-use mathlib.Core.Path.{_≡_, refl, _∙_, ap}
+use mathlib.Core.Path.{_≡_, refl}
 use native.Mathlib.Omega.{arith}
 use Rattle.images.specs.Ranges.{either, between}
 use Rattle.images.proofs.Ranges.{good-next, good-none, good-all}

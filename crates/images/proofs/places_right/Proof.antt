@@ -17,10 +17,10 @@ are-either-requires-3 : tie.Need-are-either-requires-3
 are-either-requires-3 c κs = search needs
 
 has-page-requires : tie.Need-has-page-requires
-has-page-requires c κs = (ap length (c .before .before .before .before .pre .1) ∙ bytes-length _, c .before .before .before .before .pre .2)
+has-page-requires c κs = (ap length (c .before .before .before .before .pre .0) ∙ bytes-length _, c .before .before .before .before .pre .1)
 
 returns : tie.Need-returns
-returns c = places-by-range (c .before .before .before .before .before .args .layout) (c .before .before .before .before .before .args .image .now) (c .before .before .before .before .before .args .page .now) _ _ _ _ (c .before .before .before .before .before .pre .2) (c .before .before .before .before .before .pre .1) (c .before .before .before .are-either .ensures) (c .before .before .are-either2 .ensures) (c .before .are-either3 .ensures) (c .has-page .ensures)
+returns c = places-by-range (c .before .before .before .before .before .args .layout) (c .before .before .before .before .before .args .image .now) (c .before .before .before .before .before .args .page .now) _ _ _ _ (c .before .before .before .before .before .pre .1) (c .before .before .before .before .before .pre .0) (c .before .before .before .are-either .ensures) (c .before .before .are-either2 .ensures) (c .before .are-either3 .ensures) (c .has-page .ensures)
 
 pub places-right-spec : {M : Type 1} → statement M
 places-right-spec =
