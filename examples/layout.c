@@ -5,6 +5,7 @@
 #include <stdio.h>
 #include <stdlib.h>
 
+/* One line more than an accepted program has, so that a longer one is told by 9. */
 enum { LINES = 1025, WIDTH = 6, LONGEST = 17 };
 
 static uint8_t text[LONGEST * LINES * 34];
@@ -18,8 +19,14 @@ static size_t count_of(uint64_t answer) {
     return answer;
 }
 
+/* A number that is too large for a byte names no layout either. */
+static uint8_t number_of(const char *word) {
+    int number = atoi(word);
+    return number < 0 || number > 255 ? 255 : number;
+}
+
 int main(int count, char **words) {
-    uint8_t position = count > 1 ? atoi(words[1]) : 0, spacing = count > 2 ? atoi(words[2]) : 0;
+    uint8_t position = count > 1 ? number_of(words[1]) : 0, spacing = count > 2 ? number_of(words[2]) : 0;
     size_t bytes = fread(text, 1, sizeof text, stdin);
     size_t lines = count_of(dualrail_read(text, bytes, program, WIDTH * LINES));
     size_t more = count_of(dualrail_expand(position, spacing, program, WIDTH * lines, expansion, LONGEST * WIDTH * LINES));

@@ -1,4 +1,4 @@
-//! The edges and examples that the papers print, and a few for the walk.
+//! The edges and examples that the papers print, and a few for the walk and for the layouts.
 
 use dualrail::paper::walk::SET;
 use dualrail::paper::{Paper, ROW, SIX, STATE};

@@ -1,7 +1,7 @@
 // What lines and bits are as numbers. 'Line form' of document 01, stored programs: six numbers to a line and back, conditions 3 to 6 of
 // six numbers, and the check of a whole program (7, 3 to 6). Decoding is total: every number gives some field, and the check says
-// whether the numbers are a line. Last the kind of a place, from 'Places of the machine', and the layout and the code of a bit, from
-// 'Code, tables, macros'.
+// whether the numbers are a line. Last the kind of a place, from 'Places of the machine', and the code of a bit, from 'Code, tables,
+// macros', in one of the layouts of request 04.
 ghost use mathlib.Core.Path.{_≡_};
 ghost use mathlib.Core.Bool.{true};
 ghost use mathlib.Core.List.{map};
@@ -35,6 +35,15 @@ pub const OPCODES: u16 = 13;
 pub const OPERANDS: u16 = 17185;
 
 pub const TARGETS: u16 = 32770;
+
+// The numbers of the opcodes that a marked line may have begin with not and end with xor; mov is between, and from `and` on they have tables.
+pub const NOT: u16 = 2;
+
+pub const MOV: u16 = 3;
+
+pub const AND: u16 = 4;
+
+pub const XOR: u16 = 6;
 
 // Where the numbers of each form of operand begin.
 pub const LITERALS: u16 = 1;

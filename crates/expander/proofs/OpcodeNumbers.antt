@@ -4,8 +4,8 @@ use mathlib.Core.Bool.{false, _&&_}
 use mathlib.Core.List.{[]}
 use Prim.Native.Nat.{ℕ, zero, suc}
 use native.Mathlib.Omega.{arith}
-use borrow.Author.Tests.{le-ltb, le-leb}
-use lib.Dec.{ltb, leb}
+use borrow.Author.Tests.{le-leb, lt-leb}
+use lib.Dec.{leb}
 use Rattle.model.specs.declared.Layout.{Layout}
 use Rattle.model.specs.declared.Opcode.{Opcode}
 use Rattle.model.specs.declared.Operand.{Operand}
@@ -30,7 +30,7 @@ high (suc (suc (suc (suc zero)))) = record { no-macro = refl; no-table = refl; n
 high (suc (suc (suc (suc (suc zero))))) = record { no-macro = refl; no-table = refl; nothing = λ L d a. refl }
 high (suc (suc (suc (suc (suc (suc n)))))) = record { no-macro = refl; no-table = refl; nothing = λ L d a. refl }
 
-pub macro-number : (n : ℕ) → (leb 2 n && ltb n 7) ≡ hasMacro (opcodeOf n)
+pub macro-number : (n : ℕ) → (leb 2 n && leb n 6) ≡ hasMacro (opcodeOf n)
 unfolding hasMacro
 macro-number zero = refl
 macro-number (suc zero) = refl
@@ -41,9 +41,9 @@ macro-number (suc (suc (suc (suc (suc zero))))) = refl
 macro-number (suc (suc (suc (suc (suc (suc zero)))))) = refl
 macro-number (suc (suc (suc (suc (suc (suc (suc n))))))) =
     let m = suc (suc (suc (suc (suc (suc (suc n)))))) in
-    rw (le-leb 2 m (omega arith), le-ltb m 7 (omega arith)) (sym (high n .no-macro))
+    rw (le-leb 2 m (omega arith), lt-leb m 6 (omega arith)) (sym (high n .no-macro))
 
-pub table-number : (n : ℕ) → (leb 4 n && ltb n 7) ≡ hasTable (opcodeOf n)
+pub table-number : (n : ℕ) → (leb 4 n && leb n 6) ≡ hasTable (opcodeOf n)
 table-number zero = refl
 table-number (suc zero) = refl
 table-number (suc (suc zero)) = refl
@@ -53,7 +53,7 @@ table-number (suc (suc (suc (suc (suc zero))))) = refl
 table-number (suc (suc (suc (suc (suc (suc zero)))))) = refl
 table-number (suc (suc (suc (suc (suc (suc (suc n))))))) =
     let m = suc (suc (suc (suc (suc (suc (suc n)))))) in
-    rw (le-leb 4 m (omega arith), le-ltb m 7 (omega arith)) (sym (high n .no-table))
+    rw (le-leb 4 m (omega arith), lt-leb m 6 (omega arith)) (sym (high n .no-table))
 
 pub unary-number : (n : ℕ) → (n ≡ 2 → ⊥) → (n ≡ 3 → ⊥) → (L : Layout) (d a : Operand) → unary L (opcodeOf n) d a ≡ []
 unfolding unary

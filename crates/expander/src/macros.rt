@@ -256,7 +256,7 @@ fn table_of(layout: Layout, o: Opcode) -> u8
     }
 }
 
-// not and mov; an opcode without a macro gives nothing.
+// not and mov; all other opcodes give nothing here.
 fn put_unary(out: &mut [u16], at: usize, layout: Layout, o: Opcode, d: u16, a: u16) -> usize
     requires { ⌜ 6 * (at + length (unary layout o (operandOf d) (operandOf a))) ≤ length (now out) ⌝ }
     ensures { λ r. ⌜ Wrote (now (out .entry)) (now (out .exit)) at r (unary layout o (operandOf d) (operandOf a)) ⌝ }
@@ -321,24 +321,25 @@ fn lookup_size(layout: Layout, a: u16, b: u16) -> u16
     load_size(a) + scale_size(layout) + load_size(b) + 6
 }
 
-// Of not, number 2, a load, the flip and two lines to write back, of mov, number 3, a load and those two; an opcode without a macro has none.
+// Of not a load, the flip and two lines to write back, of mov a load and those two; all other opcodes give nothing here.
 fn unary_size(o: u16, a: u16) -> u16
     ensures { λ r. ⌜ ((L : Layout) (d : Operand) → r ≡ length (unary L (opcodeOf o) d (coded L (operandOf a)))) ⌝ }
 {
-    if o == 2 {
+    if o == coding::NOT {
         return load_size(a) + 3;
     }
-    if o == 3 {
+    if o == coding::MOV {
         return load_size(a) + 2;
     }
     0
 }
 
-// The lines of the macro of an opcode's number with the arguments that these become, whatever its destination is. and, orr and xor are 4 to 6.
+// The lines of the macro of an opcode's number with the arguments that these become, whatever its destination is. By the number, since that is
+// told sooner than the opcode.
 fn macro_size(layout: Layout, o: u16, a: u16, b: u16) -> u16
     ensures { λ r. ⌜ ((d : Operand) → r ≡ length (macro layout (opcodeOf o) d (coded layout (operandOf a)) (coded layout (operandOf b)))) ⌝ }
 {
-    if (4 <= o) & (o < 7) {
+    if (coding::AND <= o) & (o <= coding::XOR) {
         return lookup_size(layout, a, b);
     }
     unary_size(o, a)

@@ -29,7 +29,7 @@ fn is_marked(m: u16) -> bool
 }
 
 // The kind of the places that an operand names.
-pub fn kind_of(code: u16) -> Kind
+fn kind_of(code: u16) -> Kind
     ensures { λ r. ⌜ r ≡ kindOf (operandOf code) ⌝ }
 {
     if code < REGISTERS {
@@ -50,7 +50,7 @@ pub fn kind_of(code: u16) -> Kind
     Kind::Neither
 }
 
-// Whether an operand names public places. The expander asks it of each argument of a marked line, most of which the first tests tell.
+// Whether an operand names public places. The expander asks it of each argument of a marked line.
 pub fn names_public(code: u16) -> bool
     ensures { λ r. ⌜ r ≡ isPublic (kindOf (operandOf code)) ⌝ }
 {
@@ -126,7 +126,7 @@ fn is_no_bit(code: u16) -> bool
 fn has_macro(o: u16) -> bool
     ensures { λ r. ⌜ r ≡ hasMacro (opcodeOf o) ⌝ }
 {
-    (2 <= o) & (o < 7)
+    (coding::NOT <= o) & (o <= coding::XOR)
 }
 
 // A target's number is 1 more than its line, and 0 for no target: one test tells both.
@@ -210,7 +210,8 @@ fn are_usual(d: u16, a: u16, b: u16) -> bool
     false
 }
 
-// The lowest of the conditions that a line with another operand breaks: a reserved place gives 10, a sensitive base 12, with 11 between.
+// The lowest of the conditions that a line breaks with an operand that is not usual: a reserved place gives 10, a sensitive base 12, with 11
+// between.
 fn other_fault(m: u16, d: u16, a: u16, b: u16) -> u8
     requires { ⌜ allUsual (operandOf d) (operandOf a) (operandOf b) ≡ false ⌝ }
     ensures { λ r. ⌜ ((n o t : ℕ) → r ≡ markFault n (lineOf m o d a b t)) ⌝ }
@@ -224,7 +225,7 @@ fn other_fault(m: u16, d: u16, a: u16, b: u16) -> u8
     12
 }
 
-// The lowest of the conditions that one without breaks; 0 for none.
+// The lowest of the conditions that a line breaks whose operands are all usual; 0 for none.
 fn usual_fault(count: u16, m: u16, o: u16, d: u16, a: u16, b: u16, t: u16) -> u8
     requires { ⌜ allUsual (operandOf d) (operandOf a) (operandOf b) ≡ true ⌝ }
     ensures { λ r. ⌜ r ≡ markFault count (lineOf m o d a b t) ⌝ }

@@ -20,7 +20,7 @@ entries spaced op = mapAt (λ i x. entry (layoutOf 0 (cond spaced 1 0)) op i) 0 
 abbrev pub Small : List ℕ → Type 0
 Small table = (length table ≡ 16) × ((k : ℕ) → getD table k 0 ≤ 4)
 
--- the first k entries of the three tables copied into a page, each to its place in the layout and as many times as great
+-- the first k entries of the three tables copied into a page, each to its place in the layout and times the code of 1
 unfoldable pub copied : Layout → List ℕ → List ℕ → List ℕ → List ℕ → ℕ → List ℕ
 copied L and orr xor page zero = page
 copied L and orr xor page (suc k) =

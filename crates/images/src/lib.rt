@@ -1,5 +1,5 @@
 // 'Code, tables, macros' of document 01, the tables and the images of bit states, and the way back: conditions 23, 18 and 19, then a store of
-// 544 bytes, place by place.
+// 544 bytes, by ranges of places of one kind.
 ghost use mathlib.Core.Path.{_≡_};
 ghost use mathlib.Core.Bool.{cond};
 ghost use mathlib.Core.List.{[], _∷_};
@@ -18,14 +18,14 @@ use model::Answer;
 use model::Layout;
 use model::STATE_SIZE;
 
-// The tables of codes at position 0. Of neighbours, entry 4 * code(a) + code(b) is the code of a op b, and the twelve other entries are 0;
+// The tables of codes of neighbours at position 0: entry 4 * code(a) + code(b) is the code of a op b, the twelve other entries are 0.
 const AND: [u8; TABLE] = [0, 0, 0, 0, 0, 1, 2, 0, 0, 2, 2, 0, 0, 0, 0, 0];
 
 const ORR: [u8; TABLE] = [0, 0, 0, 0, 0, 1, 1, 0, 0, 1, 2, 0, 0, 0, 0, 0];
 
 const XOR: [u8; TABLE] = [0, 0, 0, 0, 0, 2, 1, 0, 0, 1, 2, 0, 0, 0, 0, 0];
 
-// of spaced bits it is entry 2 * code(a) + code(b).
+// Those of spaced bits at position 0, where it is entry 2 * code(a) + code(b).
 const SPACED_AND: [u8; TABLE] = [0, 0, 0, 1, 0, 0, 4, 0, 0, 4, 0, 0, 4, 0, 0, 0];
 
 const SPACED_ORR: [u8; TABLE] = [0, 0, 0, 1, 0, 0, 1, 0, 0, 1, 0, 0, 4, 0, 0, 0];
@@ -96,7 +96,7 @@ fn page_of(layout: Layout) -> [u8; PAGE]
     page
 }
 
-// ---- the places of a state, from one to before another
+// ---- the places of a state from `start` on and before `end`
 
 // Where the kinds of places change: r0 to r3, public and sensitive registers, public and sensitive cells, the table page.
 const R4: usize = 4;
@@ -109,7 +109,7 @@ const CELL_128: usize = 160;
 
 const PAGE_START: usize = 288;
 
-// Whether each holds x or y. Nothing is returned early, so that many places are looked at in one step.
+// Whether each place from `start` to `end` holds x or y. Nothing is returned early, so that many places are looked at in one step.
 fn are_either(state: &[u8], start: usize, end: usize, x: u8, y: u8) -> bool
     requires { ⌜ (start ≤ end) × (end ≤ length (now state)) ⌝ }
     ensures { λ r. ⌜ r ≡ between (either x y) start (end - start) (now (state .entry)) ⌝ }
@@ -137,7 +137,7 @@ fn has_page(page: &[u8; PAGE], state: &[u8]) -> bool
     good
 }
 
-// Copies bytes to them, from as many places before as `shift` says.
+// Copies bytes to the places from `start` to `end`, from as many places before as `shift` says.
 fn copy_between(from: &[u8], shift: usize, into: &mut [u8], start: usize, end: usize)
     requires { ⌜ (shift ≤ start) × (start ≤ end) × (end ≤ length (now into)) × (end ≤ shift + length (now from)) ⌝ }
     ensures { λ r. ⌜ now (into .exit) ≡ filled (shifted (now (from .entry)) shift) start (end - start) (now (into .entry)) ⌝ }
@@ -149,13 +149,14 @@ fn copy_between(from: &[u8], shift: usize, into: &mut [u8], start: usize, end: u
     }
 }
 
+// One of two bytes, by whether a third is the key.
 fn choose(byte: u8, key: u8, x: u8, y: u8) -> u8
     ensures { λ r. ⌜ r ≡ cond (eqb byte key) x y ⌝ }
 {
     if byte == key { x } else { y }
 }
 
-// Writes x to them where the same place of another state holds the key, y where it does not.
+// Writes x to each place from `start` to `end` where the same place of another state holds the key, y where it does not; 0 for both clears.
 fn choose_between(from: &[u8], into: &mut [u8], start: usize, end: usize, key: u8, x: u8, y: u8)
     requires { ⌜ (start ≤ end) × (end ≤ length (now into)) × (end ≤ length (now from)) ⌝ }
     ensures { λ r. ⌜ now (into .exit) ≡ filled (chosen (now (from .entry)) key x y) start (end - start) (now (into .entry)) ⌝ }

@@ -49,7 +49,7 @@ macro-before Bne d a b ea eb = refl
 expand-before : (p : List Line) → Never holds13 p → expand neighbours p ≡ expandBefore p
 unfolding holds13
 expand-before p h =
-    expand-by macroBefore (λ l. T (not (holds13 l)))
+    expand-by macroBefore (coded neighbours) (λ l. T (not (holds13 l)))
     (λ op d a b t k.
     let p = nor-T (isPublic (kindOf a)) (isPublic (kindOf b)) k in
     macro-before op d (coded neighbours a) (coded neighbours b)

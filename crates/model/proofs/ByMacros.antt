@@ -18,9 +18,9 @@ use Rattle.model.specs.Before.{Macros, partBy, startBy, expandBy}
 use Rattle.model.proofs.Acceptance.{mk}
 
 -- the lines spoken of are those of which Q holds
-module _ (macros : Macros) (Q : Line → Type 0)
+module _ (macros : Macros) (become : Operand → Operand) (Q : Line → Type 0)
     (agree : (op : Opcode) (d a b : Operand) (t : Target) → Q (mk Marked op d a b t)
-    → macro neighbours op d (coded neighbours a) (coded neighbours b) ≡ macros op d (coded neighbours a) (coded neighbours b)) where
+    → macro neighbours op d (coded neighbours a) (coded neighbours b) ≡ macros op d (become a) (become b)) where
   -- under starts that are the same
   module _ (f g : ℕ → ℕ) (same : (i : ℕ) → f i ≡ g i) where
     target-by : (t : Target) → newTarget f t ≡ newTarget g t
@@ -28,25 +28,25 @@ module _ (macros : Macros) (Q : Line → Type 0)
     target-by NoTarget = refl
     target-by (ToLine t) = ap ToLine (same t)
 
-    line-by : (m : Mark) (op : Opcode) (d a b : Operand) (t : Target) → Q (mk m op d a b t) → part neighbours f (mk m op d a b t) ≡ partBy macros m g (mk m op d a b t)
+    line-by : (m : Mark) (op : Opcode) (d a b : Operand) (t : Target) → Q (mk m op d a b t) → part neighbours f (mk m op d a b t) ≡ partBy macros become m g (mk m op d a b t)
     unfolding partOf partBy
     line-by Unmarked op d a b t h = ap (λ (u : Target). mk Unmarked op d a b u ∷ []) (target-by t)
     line-by Marked op d a b t h = agree op d a b t h
 
-    part-by : (l : Line) → Q l → part neighbours f l ≡ partBy macros (l .mark) g l
+    part-by : (l : Line) → Q l → part neighbours f l ≡ partBy macros become (l .mark) g l
     part-by l h = line-by (l .mark) (l .opcode) (l .destination) (l .first) (l .second) (l .target) h
 
-    joined-by : (p : List Line) → Every Q p → joined neighbours f p ≡ flatMap (λ l. partBy macros (l .mark) g l) p
+    joined-by : (p : List Line) → Every Q p → joined neighbours f p ≡ flatMap (λ l. partBy macros become (l .mark) g l) p
     unfolding joined
     joined-by [] h = refl
     joined-by (l ∷ p) h = ap₂ (λ (x y : List Line). x ++ y) (part-by l (h .0)) (joined-by p (h .1))
 
-  start-by : (p : List Line) → Every Q p → (k : ℕ) → start neighbours p k ≡ startBy macros p k
+  start-by : (p : List Line) → Every Q p → (k : ℕ) → start neighbours p k ≡ startBy macros become p k
   unfolding start startBy size
   start-by [] h k = refl
   start-by (l ∷ p) h zero = refl
   start-by (l ∷ p) h (suc k) = ap₂ (λ (x y : ℕ). x + y) (ap length (part-by (λ t. t) (λ t. t) (λ i. refl) l (h .0))) (start-by p (h .1) k)
 
-  pub expand-by : (p : List Line) → Every Q p → expand neighbours p ≡ expandBy macros p
+  pub expand-by : (p : List Line) → Every Q p → expand neighbours p ≡ expandBy macros become p
   unfolding expand expandBy
-  expand-by p h = joined-by (start neighbours p) (startBy macros p) (start-by p h) p h
+  expand-by p h = joined-by (start neighbours p) (startBy macros become p) (start-by p h) p h

@@ -1,7 +1,7 @@
 -- Request 04: neighbours at position 0 give the earlier bytes. The layout that 0 and 0 name computes to the numbers of document 01; its macros
 -- are the earlier ones by their lines, its page the earlier one by a test of all cells. Assumes nothing.
-use mathlib.Core.Path.{_≡_, refl, sym, ap, ap₂}
-use mathlib.Core.Bool.{Bool, cond}
+use mathlib.Core.Path.{_≡_, refl, sym, ap, ap₂, _∙_}
+use mathlib.Core.Bool.{Bool, true, false, cond}
 use mathlib.Core.List.{List, [], _∷_, flatMap}
 use Prim.Native.Nat.{ℕ, zero, suc, _-_, _≤_}
 use native.Mathlib.Omega.{arith}
@@ -11,10 +11,11 @@ use lib.ListN.{length, getD, replicate}
 use Rattle.model.specs.declared.Opcode.{Opcode}
 use Rattle.model.specs.declared.Opcode.the-variants.{Nop, Jmp, Not, Mov, And, Orr, Xor, Lsl, Lsr, Add, Mul, Beq, Bne}
 use Rattle.model.specs.declared.Operand.{Operand}
+use Rattle.model.specs.declared.Operand.the-variants.{Empty, Literal, Register, Cell, PublicCell, SensitiveCell, TableCell}
 use Rattle.model.specs.declared.Line.{Line}
 use Rattle.model.specs.Limits.{stateSize, maxLines}
 use Rattle.model.specs.Answers.{unlessRefused}
-use Rattle.model.specs.Places.{State}
+use Rattle.model.specs.Places.{State, kindOf, isPublic}
 use Rattle.model.specs.Lines.{Every}
 use Rattle.model.specs.Stored.{lines}
 use Rattle.model.specs.Step.{alu}
@@ -22,25 +23,33 @@ use Rattle.model.specs.Layouts.{layoutOf, neighbours}
 use Rattle.model.specs.Code.{code, entry, page}
 use Rattle.model.specs.Images.{mapAt, fixed, imageAt, image, backAt, back, bitRight, fixedRight, imageRight, every, carried}
 use Rattle.model.specs.Marks.{markCheck}
-use Rattle.model.specs.Expansion.{shifts, scale, combine, fetch, flip, writeBack, lookup, negate, copy, macro, expand, written, expansionIn, expandOutcome}
+use Rattle.model.specs.Expansion.{coded, move, codeBit, load, shifts, scale, combine, fetch, flip, writeBack, lookup, negate, copy, macro, expand, written, expansionIn, expandOutcome}
 use Rattle.model.specs.Programs.{inputSize, traceBudget, refusalText, orRefusal, traceText, printed, expandPrints, tracePrints}
 use Rattle.model.specs.Run.{run}
 use Rattle.model.specs.Text.{spellLine, reading}
-use Rattle.model.specs.Earlier.{codeEarlier, pageEarlier, fixedEarlier, imageEarlier, backEarlier, rightEarlier, lookupEarlier, negateEarlier, copyEarlier, macroEarlier, expandEarlier, EarlierBytes}
+use Rattle.model.specs.Earlier.{codeEarlier, codedEarlier, bitEarlier, loadEarlier, pageEarlier, fixedEarlier, imageEarlier, backEarlier, rightEarlier, lookupEarlier, negateEarlier, copyEarlier, macroEarlier, expandEarlier, EarlierBytes}
 use Rattle.model.proofs.TestLaws.{below, allBelow, all-below}
 use Rattle.model.proofs.ByMacros.{expand-by}
 
 -- ---- expansions
 
+load-earlier : (n : ℕ) (a : Operand) → load n a ≡ loadEarlier n a
+unfolding load loadEarlier
+load-earlier n a = ap (λ (ls : List Line). move (Register n) (Register 0) ∷ move (Register n) a ∷ ls) (go (isPublic (kindOf a)))
+  where
+    go : (b : Bool) → codeBit b n ≡ bitEarlier b n
+    go true = refl
+    go false = refl
+
 macro-earlier : (op : Opcode) (d a b : Operand) → macro neighbours op d a b ≡ macroEarlier op d a b
 unfolding macro macroEarlier lookup negate copy shifts scale combine fetch flip writeBack lookupEarlier negateEarlier copyEarlier
 macro-earlier Nop d a b = refl
 macro-earlier Jmp d a b = refl
-macro-earlier Not d a b = refl
-macro-earlier Mov d a b = refl
-macro-earlier And d a b = refl
-macro-earlier Orr d a b = refl
-macro-earlier Xor d a b = refl
+macro-earlier Not d a b = rw (load-earlier 1 a)
+macro-earlier Mov d a b = rw (load-earlier 3 a)
+macro-earlier And d a b = rw (load-earlier 1 a, load-earlier 2 b)
+macro-earlier Orr d a b = rw (load-earlier 1 a, load-earlier 2 b)
+macro-earlier Xor d a b = rw (load-earlier 1 a, load-earlier 2 b)
 macro-earlier Lsl d a b = refl
 macro-earlier Lsr d a b = refl
 macro-earlier Add d a b = refl
@@ -48,19 +57,31 @@ macro-earlier Mul d a b = refl
 macro-earlier Beq d a b = refl
 macro-earlier Bne d a b = refl
 
+code-earlier : (n : ℕ) → code neighbours n ≡ codeEarlier n
+unfolding code
+code-earlier zero = refl
+code-earlier (suc n) = refl
+
+coded-earlier : (a : Operand) → coded neighbours a ≡ codedEarlier a
+unfolding coded codedEarlier
+coded-earlier Empty = refl
+coded-earlier (Literal n) = ap Literal (code-earlier n)
+coded-earlier (Register n) = refl
+coded-earlier (Cell n) = refl
+coded-earlier (PublicCell r k) = refl
+coded-earlier (SensitiveCell r k) = refl
+coded-earlier (TableCell r k) = refl
+
 every-line : (p : List Line) → Every (λ l. Unit {0}) p
 every-line [] = tt
 every-line (l ∷ p) = (tt, every-line p)
 
 expand-earlier : (p : List Line) → expand (layoutOf 0 0) p ≡ expandEarlier p
-expand-earlier p = expand-by macroEarlier (λ l. Unit {0}) (λ op d a b t h. macro-earlier op d _ _) p (every-line p)
+expand-earlier p =
+    expand-by macroEarlier codedEarlier (λ l. Unit {0})
+    (λ op d a b t h. macro-earlier op d (coded neighbours a) (coded neighbours b) ∙ ap₂ (macroEarlier op d) (coded-earlier a) (coded-earlier b)) p (every-line p)
 
--- ---- the code and the page
-
-code-earlier : (n : ℕ) → code neighbours n ≡ codeEarlier n
-unfolding code
-code-earlier zero = refl
-code-earlier (suc n) = refl
+-- ---- the page
 
 sameCells : ℕ → Bool
 sameCells i = eqb (page neighbours i) (getD pageEarlier i 0)

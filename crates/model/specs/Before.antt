@@ -77,28 +77,27 @@ macroBefore Mul d a b = []
 macroBefore Beq d a b = []
 macroBefore Bne d a b = []
 
--- ---- its expansion, of any macros that are spelt out
+-- ---- its expansion, of any macros that are spelt out, and of what a marked line's arguments become in them
 
 abbrev pub Macros : Type 0
 Macros = Opcode → Operand → Operand → Operand → List Line
 
-unfoldable pub partBy : Macros → Mark → (ℕ → ℕ) → Line → List Line
-unfolding coded
-partBy macros Unmarked starts l = retarget starts l ∷ []
-partBy macros Marked starts l = macros (l .opcode) (l .destination) (coded neighbours (l .first)) (coded neighbours (l .second))
+unfoldable pub partBy : Macros → (Operand → Operand) → Mark → (ℕ → ℕ) → Line → List Line
+partBy macros become Unmarked starts l = retarget starts l ∷ []
+partBy macros become Marked starts l = macros (l .opcode) (l .destination) (become (l .first)) (become (l .second))
 
-unfoldable pub startBy : Macros → List Line → ℕ → ℕ
+unfoldable pub startBy : Macros → (Operand → Operand) → List Line → ℕ → ℕ
 unfolding partBy
-startBy macros [] i = 0
-startBy macros (l ∷ ls) zero = 0
-startBy macros (l ∷ ls) (suc i) = length (partBy macros (l .mark) (λ t. t) l) + startBy macros ls i
+startBy macros become [] i = 0
+startBy macros become (l ∷ ls) zero = 0
+startBy macros become (l ∷ ls) (suc i) = length (partBy macros become (l .mark) (λ t. t) l) + startBy macros become ls i
 
-unfoldable pub expandBy : Macros → List Line → List Line
+unfoldable pub expandBy : Macros → (Operand → Operand) → List Line → List Line
 unfolding partBy startBy flatMap
-expandBy macros p = flatMap (λ l. partBy macros (l .mark) (startBy macros p) l) p
+expandBy macros become p = flatMap (λ l. partBy macros become (l .mark) (startBy macros become p) l) p
 
 abbrev pub expandBefore : List Line → List Line
-expandBefore p = expandBy macroBefore p
+expandBefore p = expandBy macroBefore (coded neighbours) p
 
 -- ---- its accepted programs
 

@@ -1,7 +1,7 @@
 -- Request 04, 'neighbours at position 0, as the two programs print, give the earlier bytes': the code, the table page, the images and the
 -- macros as they stood before a layout could be chosen, in their numbers, and the claim. Assumes nothing.
 use mathlib.Core.Path.{_≡_}
-use mathlib.Core.Bool.{Bool, true, cond, _||_}
+use mathlib.Core.Bool.{Bool, true, false, cond, _||_}
 use mathlib.Core.List.{List, [], _∷_, _++_, flatMap}
 use Prim.Native.Nat.{ℕ, zero, suc, _-_}
 use lib.Dec.{eqb, ltb}
@@ -9,18 +9,18 @@ use lib.ListN.{getD, replicate}
 use Rattle.model.specs.declared.Opcode.{Opcode}
 use Rattle.model.specs.declared.Opcode.the-variants.{Nop, Jmp, Not, Mov, And, Orr, Xor, Lsl, Lsr, Add, Mul, Beq, Bne}
 use Rattle.model.specs.declared.Operand.{Operand}
-use Rattle.model.specs.declared.Operand.the-variants.{Literal, Register, TableCell}
+use Rattle.model.specs.declared.Operand.the-variants.{Empty, Literal, Register, Cell, PublicCell, SensitiveCell, TableCell}
 use Rattle.model.specs.declared.Line.{Line}
 use Rattle.model.specs.Limits.{stateSize}
 use Rattle.model.specs.Answers.{unlessRefused}
-use Rattle.model.specs.Places.{State, kind}
+use Rattle.model.specs.Places.{State, kind, kindOf, isPublic}
 use Rattle.model.specs.Stored.{lines}
 use Rattle.model.specs.Text.{spellLine}
 use Rattle.model.specs.Run.{run}
 use Rattle.model.specs.Layouts.{layoutOf}
 use Rattle.model.specs.Images.{byKind, mapAt, image, back, bitRight, carried, toImageOutcome, fromImageOutcome}
 use Rattle.model.specs.Marks.{markCheck}
-use Rattle.model.specs.Expansion.{markedLine, move, load, expand, written, expandOutcome}
+use Rattle.model.specs.Expansion.{markedLine, move, expand, written, expandOutcome}
 use Rattle.model.specs.Programs.{traceBudget, printed, traceText, expandPrints, tracePrints}
 use Rattle.model.specs.Before.{expandBy}
 
@@ -55,16 +55,36 @@ unfoldable pub rightEarlier : ℕ → ℕ → Bool
 unfolding kind fixedEarlier
 rightEarlier i x = byKind (kind i) (cond (ltb i 4) (cond (eqb i 0) (eqb x 0) true) (eqb x (fixedEarlier i))) true (eqb x 1 || eqb x 2)
 
--- ---- the macros; a load has two lines, or four with a public bit (request 03)
+-- ---- the macros
+
+-- a literal of a marked line
+unfoldable pub codedEarlier : Operand → Operand
+codedEarlier Empty = Empty
+codedEarlier (Literal n) = Literal (codeEarlier n)
+codedEarlier (Register n) = Register n
+codedEarlier (Cell n) = Cell n
+codedEarlier (PublicCell r k) = PublicCell r k
+codedEarlier (SensitiveCell r k) = SensitiveCell r k
+codedEarlier (TableCell r k) = TableCell r k
+
+-- a load has two lines, or four with a public bit (request 03)
+unfoldable pub bitEarlier : Bool → ℕ → List Line
+bitEarlier false n = []
+bitEarlier true n = markedLine And (Register n) (Register n) (Literal 1) ∷ move (Register n) (TableCell n 240) ∷ []
+
+unfoldable pub loadEarlier : ℕ → Operand → List Line
+unfolding bitEarlier kindOf
+loadEarlier n a = move (Register n) (Register 0) ∷ move (Register n) a ∷ bitEarlier (isPublic (kindOf a)) n
 
 -- and, orr, xor
 unfoldable pub lookupEarlier : ℕ → Operand → Operand → Operand → List Line
+unfolding loadEarlier
 lookupEarlier t d a b =
-    load 1 a
+    loadEarlier 1 a
     ++ (markedLine And (Register 1) (Register 1) (Literal 3)
     ∷ markedLine Lsl (Register 1) (Register 1) (Literal 1)
     ∷ markedLine Lsl (Register 1) (Register 1) (Literal 1)
-    ∷ load 2 b
+    ∷ loadEarlier 2 b
     ++ (markedLine And (Register 2) (Register 2) (Literal 3)
     ∷ markedLine Orr (Register 1) (Register 1) (Register 2)
     ∷ move (Register 3) (Register 0)
@@ -75,8 +95,9 @@ lookupEarlier t d a b =
 
 -- not
 unfoldable pub negateEarlier : Operand → Operand → List Line
+unfolding loadEarlier
 negateEarlier d a =
-    load 1 a
+    loadEarlier 1 a
     ++ (markedLine Xor (Register 1) (Register 1) (Literal 3)
     ∷ move d (Register 0)
     ∷ move d (Register 1)
@@ -84,7 +105,8 @@ negateEarlier d a =
 
 -- mov
 unfoldable pub copyEarlier : Operand → Operand → List Line
-copyEarlier d a = load 3 a ++ (move d (Register 0) ∷ move d (Register 3) ∷ [])
+unfolding loadEarlier
+copyEarlier d a = loadEarlier 3 a ++ (move d (Register 0) ∷ move d (Register 3) ∷ [])
 
 unfoldable pub macroEarlier : Opcode → Operand → Operand → Operand → List Line
 unfolding lookupEarlier negateEarlier copyEarlier
@@ -103,7 +125,7 @@ macroEarlier Beq d a b = []
 macroEarlier Bne d a b = []
 
 abbrev pub expandEarlier : List Line → List Line
-expandEarlier p = expandBy macroEarlier p
+expandEarlier p = expandBy macroEarlier codedEarlier p
 
 -- ---- the claim
 
