@@ -22,7 +22,7 @@ use Rattle.model.specs.Stored.{lineCount, lines, programCheck}
 use Rattle.model.specs.Layouts.{neighbours}
 use Rattle.model.specs.Marks.{isAbove, holds10, holds11, holds12, holds14, holds15, holds16, markFault, firstBad, marksOf, markCheck, Accepted}
 use Rattle.model.specs.Expansion.{coded, shifts, scale, combine, fetch, flip, writeBack, lookup, negate, copy, codeBit, load, macro, expand, written, expansionIn, expandOutcome}
-use Rattle.model.specs.Before.{lookupBefore, negateBefore, copyBefore, macroBefore, expandBefore, holds13, targetsBefore, Never, NoneHeld, AcceptedBefore, AsBefore}
+use Rattle.model.specs.Before.{lookupBefore, negateBefore, copyBefore, macroBy, macroBefore, expandBefore, holds13, targetsBefore, Never, NoneHeld, AcceptedBefore, AsBefore}
 use Rattle.model.proofs.StoredLaws.{no-false}
 use Rattle.model.proofs.Acceptance.{nor-T, clear, AllRight, accepted-right}
 use Rattle.model.proofs.Loads.{coded-kind}
@@ -31,7 +31,7 @@ use Rattle.model.proofs.ByMacros.{expand-by}
 -- ---- the expansion
 
 macro-before : (op : Opcode) (d a b : Operand) → isPublic (kindOf a) ≡ false → isPublic (kindOf b) ≡ false → macro neighbours op d a b ≡ macroBefore op d a b
-unfolding macro macroBefore lookup negate copy load codeBit shifts scale combine fetch flip writeBack lookupBefore negateBefore copyBefore
+unfolding macro macroBy lookup negate copy load codeBit shifts scale combine fetch flip writeBack lookupBefore negateBefore copyBefore
 macro-before Nop d a b ea eb = refl
 macro-before Jmp d a b ea eb = refl
 macro-before Not d a b ea eb = rw ea

@@ -27,6 +27,7 @@ use Rattle.model.specs.Expansion.{coded, move, codeBit, load, shifts, sc
 use Rattle.model.specs.Programs.{inputSize, traceBudget, refusalText, orRefusal, traceText, printed, expandPrints, tracePrints}
 use Rattle.model.specs.Run.{run}
 use Rattle.model.specs.Text.{spellLine, reading}
+use Rattle.model.specs.Before.{macroBy}
 use Rattle.model.specs.Earlier.{codeEarlier, codedEarlier, bitEarlier, loadEarlier, pageEarlier, fixedEarlier, imageEarlier, backEarlier, rightEarlier, lookupEarlier, negateEarlier, copyEarlier, macroEarlier, expandEarlier, EarlierBytes}
 use Rattle.model.proofs.TestLaws.{below, allBelow, all-below}
 use Rattle.model.proofs.ByMacros.{expand-by}
@@ -42,7 +43,7 @@ load-earlier n a = ap (λ (ls : List Line). move (Register n) (Register 0) ∷ m
     go false = refl
 
 macro-earlier : (op : Opcode) (d a b : Operand) → macro neighbours op d a b ≡ macroEarlier op d a b
-unfolding macro macroEarlier lookup negate copy shifts scale combine fetch flip writeBack lookupEarlier negateEarlier copyEarlier
+unfolding macro macroBy lookup negate copy shifts scale combine fetch flip writeBack lookupEarlier negateEarlier copyEarlier
 macro-earlier Nop d a b = refl
 macro-earlier Jmp d a b = refl
 macro-earlier Not d a b = rw (load-earlier 1 a)

@@ -61,26 +61,29 @@ copyBefore d a =
     ∷ move d (Register 3)
     ∷ []
 
-unfoldable pub macroBefore : Opcode → Operand → Operand → Operand → List Line
-unfolding lookupBefore negateBefore copyBefore
-macroBefore Nop d a b = []
-macroBefore Jmp d a b = []
-macroBefore Not d a b = negateBefore d a
-macroBefore Mov d a b = copyBefore d a
-macroBefore And d a b = lookupBefore 0 d a b
-macroBefore Orr d a b = lookupBefore 16 d a b
-macroBefore Xor d a b = lookupBefore 32 d a b
-macroBefore Lsl d a b = []
-macroBefore Lsr d a b = []
-macroBefore Add d a b = []
-macroBefore Mul d a b = []
-macroBefore Beq d a b = []
-macroBefore Bne d a b = []
-
--- ---- its expansion, of any macros that are spelt out, and of what a marked line's arguments become in them
-
+-- the macro of a marked line, by its opcode, the tables at 256, 272 and 288
 abbrev pub Macros : Type 0
 Macros = Opcode → Operand → Operand → Operand → List Line
+
+unfoldable pub macroBy : (ℕ → Operand → Operand → Operand → List Line) → (Operand → Operand → List Line) → (Operand → Operand → List Line) → Macros
+macroBy lookup negate copy Nop d a b = []
+macroBy lookup negate copy Jmp d a b = []
+macroBy lookup negate copy Not d a b = negate d a
+macroBy lookup negate copy Mov d a b = copy d a
+macroBy lookup negate copy And d a b = lookup 0 d a b
+macroBy lookup negate copy Orr d a b = lookup 16 d a b
+macroBy lookup negate copy Xor d a b = lookup 32 d a b
+macroBy lookup negate copy Lsl d a b = []
+macroBy lookup negate copy Lsr d a b = []
+macroBy lookup negate copy Add d a b = []
+macroBy lookup negate copy Mul d a b = []
+macroBy lookup negate copy Beq d a b = []
+macroBy lookup negate copy Bne d a b = []
+
+abbrev pub macroBefore : Macros
+macroBefore op d a b = macroBy lookupBefore negateBefore copyBefore op d a b
+
+-- ---- its expansion, of any macros that are spelt out, and of what a marked line's arguments become in them
 
 unfoldable pub partBy : Macros → (Operand → Operand) → Mark → (ℕ → ℕ) → Line → List Line
 partBy macros become Unmarked starts l = retarget starts l ∷ []

@@ -6,8 +6,7 @@ use mathlib.Core.List.{List, [], _∷_, _++_, flatMap}
 use Prim.Native.Nat.{ℕ, zero, suc, _-_}
 use lib.Dec.{eqb, ltb}
 use lib.ListN.{getD, replicate}
-use Rattle.model.specs.declared.Opcode.{Opcode}
-use Rattle.model.specs.declared.Opcode.the-variants.{Nop, Jmp, Not, Mov, And, Orr, Xor, Lsl, Lsr, Add, Mul, Beq, Bne}
+use Rattle.model.specs.declared.Opcode.the-variants.{And, Orr, Xor, Lsl}
 use Rattle.model.specs.declared.Operand.{Operand}
 use Rattle.model.specs.declared.Operand.the-variants.{Empty, Literal, Register, Cell, PublicCell, SensitiveCell, TableCell}
 use Rattle.model.specs.declared.Line.{Line}
@@ -22,7 +21,7 @@ use Rattle.model.specs.Images.{byKind, mapAt, image, back, bitRight, car
 use Rattle.model.specs.Marks.{markCheck}
 use Rattle.model.specs.Expansion.{markedLine, move, expand, written, expandOutcome}
 use Rattle.model.specs.Programs.{traceBudget, printed, traceText, expandPrints, tracePrints}
-use Rattle.model.specs.Before.{expandBy}
+use Rattle.model.specs.Before.{Macros, macroBy, expandBy}
 
 -- ---- the code and the table page
 
@@ -108,21 +107,8 @@ unfoldable pub copyEarlier : Operand → Operand → List Line
 unfolding loadEarlier
 copyEarlier d a = loadEarlier 3 a ++ (move d (Register 0) ∷ move d (Register 3) ∷ [])
 
-unfoldable pub macroEarlier : Opcode → Operand → Operand → Operand → List Line
-unfolding lookupEarlier negateEarlier copyEarlier
-macroEarlier Nop d a b = []
-macroEarlier Jmp d a b = []
-macroEarlier Not d a b = negateEarlier d a
-macroEarlier Mov d a b = copyEarlier d a
-macroEarlier And d a b = lookupEarlier 0 d a b
-macroEarlier Orr d a b = lookupEarlier 16 d a b
-macroEarlier Xor d a b = lookupEarlier 32 d a b
-macroEarlier Lsl d a b = []
-macroEarlier Lsr d a b = []
-macroEarlier Add d a b = []
-macroEarlier Mul d a b = []
-macroEarlier Beq d a b = []
-macroEarlier Bne d a b = []
+abbrev pub macroEarlier : Macros
+macroEarlier op d a b = macroBy lookupEarlier negateEarlier copyEarlier op d a b
 
 abbrev pub expandEarlier : List Line → List Line
 expandEarlier p = expandBy macroEarlier codedEarlier p
