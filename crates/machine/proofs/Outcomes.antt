@@ -1,6 +1,6 @@
 -- The outcome of a whole run: each way that it is refused, and the loop over steps where it is not.
 -- Assumes nothing.
-use mathlib.Core.Path.{_≡_, sym, ap, _∙_}
+use mathlib.Core.Path.{_≡_, sym, _∙_}
 use mathlib.Core.List.{List, [], _∷_}
 use Prim.Native.Nat.{ℕ, _*_, _<_, _≤_}
 use lib.ListN.{length}
@@ -8,9 +8,8 @@ use borrow.Author.Tests.{eq-eqb, ne-eqb, lt-ltb}
 use Rattle.model.specs.Limits.{stateSize, rowWidth}
 use Rattle.model.specs.declared.Answer.{Answer}
 use Rattle.model.specs.Answers.{report, counted, refused, outcome}
-use Rattle.model.specs.Stored.{programCheck}
+use Rattle.model.specs.Stored.{lineCount, programCheck}
 use Rattle.model.specs.Run.{runOutcome}
-use Rattle.model.proofs.StoredLaws.{program-checked}
 use Rattle.model.proofs.OutcomeLaws.{run-outcome}
 use Rattle.model.proofs.CheckAnswers.{program-answers, NoCount, handed-on}
 use Rattle.machine.specs.Loop.{machine, runFrom}
@@ -30,7 +29,5 @@ module _ (p : List ℕ) (start budget : ℕ) (s t : List ℕ) where
     unfolding runOutcome
     no-room h k = rw (e, eq-eqb (length s) stateSize h, lt-ltb _ _ k)
 
-    pub runs : length s ≡ stateSize → rowWidth * budget ≤ length t → runFrom p n budget (machine (record { counter = start; steps = 0 }) s t) ≡ runOutcome p start budget s t
-    runs h k =
-        ap (λ (j : ℕ). runFrom p j budget (machine (record { counter = start; steps = 0 }) s t)) (program-checked p n e .count)
-        ∙ run-leaves p start budget s t k ∙ sym (run-outcome p start budget n s t e h k)
+    pub runs : length s ≡ stateSize → rowWidth * budget ≤ length t → runFrom p (lineCount p) budget (machine (record { counter = start; steps = 0 }) s t) ≡ runOutcome p start budget s t
+    runs h k = run-leaves p start budget s t k ∙ sym (run-outcome p start budget n s t e h k)

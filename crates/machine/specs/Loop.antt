@@ -3,7 +3,7 @@
 use mathlib.Core.Path.{_≡_}
 use mathlib.Core.Bool.{Bool, true, false, cond}
 use mathlib.Core.List.{List, [], _∷_, _++_}
-use Prim.Native.Nat.{ℕ, zero, suc, _+_, _*_, _≤_}
+use Prim.Native.Nat.{ℕ, zero, suc, _+_, _-_, _*_, _≤_}
 use lib.Dec.{ltb}
 use lib.ListN.{getD, take, drop}
 use Rattle.model.specs.declared.Mark.{Mark}
@@ -13,26 +13,17 @@ use Rattle.model.specs.declared.Opcode.the-variants.{Nop, Jmp, Not, Mov, And, O
 use Rattle.model.specs.declared.Operand.{Operand}
 use Rattle.model.specs.Limits.{rowWidth, stateSize}
 use Rattle.model.specs.Answers.{halted, spent, Outcome, outcome}
-use Rattle.model.specs.Places.{State, kind, isPublic, address, place, value}
+use Rattle.model.specs.Places.{State, kind, isPublic, place, value}
 use Rattle.model.specs.Stored.{lineAt}
 use Rattle.model.specs.Step.{weight, distance, meaning, Row, result, next, after, row}
 use Rattle.machine.specs.declared.Arguments.{Arguments}
 use Rattle.machine.specs.declared.Effect.{Effect}
 use Rattle.machine.specs.declared.Fetched.{Fetched}
-use Rattle.machine.specs.declared.Place.{Place}
 use Rattle.machine.specs.declared.steps.Run.{Run}
 
--- the place of the cell n, and its number's weight
-abbrev pub cellPlace : ℕ → Place
-cellPlace n = record { at = 32 + n; weight = weight n }
-
--- the place that an operand names, and its address's weight
-abbrev pub placeOf : Operand → State → Place
-placeOf o s = record { at = place o s; weight = weight (address o s) }
-
--- what an operand reads, with its place and its address's weight
+-- what an operand reads, and its place
 abbrev pub fetchOf : Operand → State → Fetched
-fetchOf o s = record { at = place o s; value = value o s; weight = weight (address o s) }
+fetchOf o s = record { at = place o s; value = value o s }
 
 -- what a line of that mark reads of a byte at place i, by the kind of the place
 abbrev pub readAs : Mark → ℕ → ℕ → ℕ
@@ -46,13 +37,25 @@ argumentsOf m x y = record { first = readAs m (x .at) (x .value); second = readA
 abbrev pub mask : ℕ → ℕ
 mask i = cond (isPublic (kind i)) 1 255
 
--- the masks of all places, and of the one past the state, which is none
-abbrev pub Masks : List ℕ → Type 0
-Masks ms = (i : ℕ) → i ≤ stateSize → getD ms i 0 ≡ mask i
+-- the number of the cell at place i; 0 where there is none, in a register and past the state
+unfoldable pub addressAt : ℕ → ℕ
+addressAt i = cond (ltb i 32) 0 (cond (ltb i stateSize) (i - 32) 0)
 
--- the row of line k, from the old value, the result and the addresses' weights
+-- a table with an entry for each place, and for the one past the state, which is none
+abbrev pub ByPlace : (ℕ → ℕ) → List ℕ → Type 0
+ByPlace f table = (i : ℕ) → i ≤ stateSize → getD table i 0 ≡ f i
+
+-- the masks of all places, and the weights of their addresses
+abbrev pub Masks : List ℕ → Type 0
+Masks = ByPlace mask
+
+abbrev pub Weights : List ℕ → Type 0
+Weights = ByPlace (λ i. weight (addressAt i))
+
+-- the row of line k, from the old value, the result and the places of the arguments and the destination
 abbrev pub rowOf : ℕ → ℕ → ℕ → ℕ → ℕ → ℕ → Row
-rowOf k old result first second destination = k ∷ weight result ∷ distance old result ∷ first ∷ second ∷ destination ∷ []
+rowOf k old result first second destination =
+    k ∷ weight result ∷ distance old result ∷ weight (addressAt first) ∷ weight (addressAt second) ∷ weight (addressAt destination) ∷ []
 
 -- what a line does on a state
 abbrev pub effectOf : Line → ℕ → State → Effect

@@ -4,16 +4,17 @@
 ghost use mathlib.Core.Path.{_≡_};
 ghost use mathlib.Core.Bool.{cond};
 ghost use mathlib.Core.List.{[], _∷_};
-ghost use Prim.Native.Nat.{suc, _+_, _*_, _/_, _%_, _^_, _<_, _≤_};
+ghost use Prim.Native.Nat.{suc, _+_, _-_, _*_, _/_, _%_, _^_, _<_, _≤_};
 ghost use lib.ListN.{length, getD, set};
 ghost use Rattle.model.specs.Limits.{maxLines, rowWidth, stateSize};
 ghost use Rattle.model.specs.Answers.{report, outcome};
-ghost use Rattle.model.specs.Stored.{registers, opcodeOf, operandOf, targetOf, lineOf};
+ghost use Rattle.model.specs.Stored.{registers, opcodeOf, operandOf, targetOf, lineOf, lineCount};
 ghost use Rattle.model.specs.Step.{weight, distance, shiftBy, negated, alu, taken, targetLine, meaning, next, after, row};
 ghost use Rattle.model.specs.Places.{kind, place};
 ghost use Rattle.model.specs.Run.{runOutcome};
-ghost use Rattle.machine.specs.Loop.{cellPlace, placeOf, fetchOf, argumentsOf, mask, Masks, rowOf, effectOf, jumps, putRow, machine, runFrom};
+ghost use Rattle.machine.specs.Loop.{fetchOf, argumentsOf, addressAt, mask, Masks, Weights, rowOf, effectOf, jumps, putRow, machine, runFrom};
 use model::Answer;
+use model::LINE_WIDTH;
 use model::Mark;
 use model::Opcode;
 use model::ROW_WIDTH;
@@ -149,74 +150,68 @@ fn indirect(state: &[u8], n: u16, span: u16) -> u16
     ((read(state, (n / span) as usize) as u16) + n % span) % span
 }
 
-// A place, past the state where there is none, and its address's weight.
-struct Place {
-    at: usize,
-    weight: u16,
-}
-
-fn cell_place(n: u16) -> Place
-    ensures { λ r. ⌜ r ≡ cellPlace n ⌝ }
-{
-    Place {
-        at: 32 + (n as usize),
-        weight: weight(n),
-    }
-}
-
 // The place that the number of an operand other than a literal names.
-fn place_of(code: u16, state: &[u8]) -> Place
+fn place_of(code: u16, state: &[u8]) -> usize
     requires { ⌜ registers ≤ code ⌝ }
-    ensures { λ r. ⌜ r ≡ placeOf (operandOf code) (now (state .entry)) ⌝ }
+    ensures { λ r. ⌜ r ≡ place (operandOf code) (now (state .entry)) ⌝ }
 {
     if code < coding::CELLS {
-        return Place {
-            at: (code - coding::REGISTERS) as usize,
-            weight: 0,
-        };
+        return (code - coding::REGISTERS) as usize;
     }
     if code < coding::PUBLICS {
-        return cell_place(code - coding::CELLS);
+        return 32 + ((code - coding::CELLS) as usize);
     }
     if code < coding::SENSITIVES {
-        return cell_place(indirect(state, code - coding::PUBLICS, 128));
+        return 32 + (indirect(state, code - coding::PUBLICS, 128) as usize);
     }
     if code < coding::TABLES {
-        return cell_place(128 + indirect(state, code - coding::SENSITIVES, 128));
+        return 160 + (indirect(state, code - coding::SENSITIVES, 128) as usize);
     }
-    cell_place(256 + indirect(state, code - coding::TABLES, 256))
+    288 + (indirect(state, code - coding::TABLES, 256) as usize)
 }
 
-// What an operand reads, with its place, past the state where there is none, and its address's weight.
+// The place that an operand's number names, past the state where it names none.
+pub fn place_at(code: u16, state: &[u8]) -> usize
+    ensures { λ r. ⌜ r ≡ place (operandOf code) (now (state .entry)) ⌝ }
+{
+    if code < coding::REGISTERS {
+        return STATE_SIZE;
+    }
+    place_of(code, state)
+}
+
+// The value of the number of a literal; that of an empty field, which is 0, is 0 too.
+fn literal(code: u16) -> u8
+    requires { ⌜ code < registers ⌝ }
+    ensures { λ r. ⌜ r ≡ code - 1 ⌝ }
+{
+    if code == 0 {
+        0
+    } else {
+        (code - coding::LITERALS) as u8
+    }
+}
+
+// What an operand reads, and its place, past the state where there is none.
 struct Fetched {
     at: usize,
     value: u8,
-    weight: u16,
 }
 
+// An empty field and a literal are told from all others by one test: most steps fetch both arguments.
 fn fetch(code: u16, state: &[u8]) -> Fetched
     ensures { λ r. ⌜ r ≡ fetchOf (operandOf code) (now (state .entry)) ⌝ }
 {
-    if code < coding::LITERALS {
-        return Fetched {
-            at: STATE_SIZE,
-            value: 0,
-            weight: 0,
-        };
-    }
     if code < coding::REGISTERS {
         return Fetched {
             at: STATE_SIZE,
-            value: (code - coding::LITERALS) as u8,
-            weight: 0,
+            value: literal(code),
         };
     }
-    let place = place_of(code, state);
-    let at = place.at;
+    let at = place_of(code, state);
     Fetched {
         at,
         value: read(state, at),
-        weight: place.weight,
     }
 }
 
@@ -258,7 +253,7 @@ const LOWEST: u8 = 1;
 const WHOLE: u8 = 255;
 
 // The places of a state, and the one past them, which is none.
-const MASKS: usize = STATE_SIZE + 1;
+const PLACES: usize = STATE_SIZE + 1;
 
 // What it keeps of a byte at a place.
 fn mask_at(i: usize) -> u8
@@ -272,12 +267,12 @@ fn mask_at(i: usize) -> u8
 }
 
 // The masks of all places. A run makes them once: to tell the kind of a place at each argument of each step would make it slower by a third.
-fn all_masks() -> [u8; MASKS]
+fn all_masks() -> [u8; PLACES]
     ensures { λ r. ⌜ Masks r ⌝ }
 {
-    let mut masks = [0u8; MASKS];
+    let mut masks = [0u8; PLACES];
     let mut i = 0;
-    while i < MASKS {
+    while i < PLACES {
         masks[i] = mask_at(i);
         i += 1;
     }
@@ -285,7 +280,7 @@ fn all_masks() -> [u8; MASKS]
 }
 
 // The arguments of a line of that mark, by the masks.
-fn mask_arguments(mark: Mark, x: Fetched, y: Fetched, masks: &[u8; MASKS]) -> Arguments
+fn mask_arguments(mark: Mark, x: Fetched, y: Fetched, masks: &[u8; PLACES]) -> Arguments
     requires { ⌜ Masks (now masks) × (x .at ≤ stateSize) × (y .at ≤ stateSize) ⌝ }
     ensures { λ r. ⌜ r ≡ argumentsOf mark x y ⌝ }
 {
@@ -303,44 +298,44 @@ fn mask_arguments(mark: Mark, x: Fetched, y: Fetched, masks: &[u8; MASKS]) -> Ar
     }
 }
 
-// Where a line writes.
-fn destination(code: u16, state: &[u8]) -> Place
-    ensures { λ r. ⌜ r ≡ placeOf (operandOf code) (now (state .entry)) ⌝ }
-{
-    if code < coding::REGISTERS {
-        return Place {
-            at: STATE_SIZE,
-            weight: 0,
-        };
-    }
-    place_of(code, state)
-}
-
 // What a write replaced: the place as it was named before the write, and the old value there.
 struct Replaced {
-    place: Place,
+    at: usize,
     old: u8,
 }
 
 fn replace(code: u16, result: u8, state: &mut [u8]) -> Replaced
-    ensures { λ r. ⌜ (r .place ≡ placeOf (operandOf code) (now (state .entry))) × (r .old ≡ getD (now (state .entry)) (r .place .at) 0) ⌝ }
-    ensures { λ r. ⌜ now (state .exit) ≡ set (now (state .entry)) (r .place .at) result ⌝ }
+    ensures { λ r. ⌜ (r .at ≡ place (operandOf code) (now (state .entry))) × (r .old ≡ getD (now (state .entry)) (r .at) 0) ⌝ }
+    ensures { λ r. ⌜ now (state .exit) ≡ set (now (state .entry)) (r .at) result ⌝ }
 {
-    let place = destination(code, state);
-    let at = place.at;
+    let at = place_at(code, state);
     let old = read(state, at);
     write(state, at, result);
-    Replaced { place, old }
+    Replaced { at, old }
 }
 
-// The row of a line: its number, the weight of the written value, its distance from the old one, and the addresses' weights.
+// The weight of the address of a place: of a cell its number's, of any other 0.
+fn address_weight(at: usize) -> u16
+    ensures { λ r. ⌜ r ≡ weight (addressAt at) ⌝ }
+{
+    if at < 32 {
+        return 0;
+    }
+    if at < STATE_SIZE {
+        return weight((at - 32) as u16);
+    }
+    0
+}
+
+// The row of a line: its number, the weight of the written value, its distance from the old one, and the addresses' weights, by the places of
+// the arguments and the destination.
 fn row_of(
     line: u16,
     old: u8,
     result: u8,
-    first: u16,
-    second: u16,
-    destination: u16,
+    first: usize,
+    second: usize,
+    destination: usize,
 ) -> [u16; ROW_WIDTH]
     ensures { λ r. ⌜ r ≡ rowOf line old result first second destination ⌝ }
 {
@@ -348,9 +343,54 @@ fn row_of(
         line,
         weight(result as u16),
         distance(old, result),
-        first,
-        second,
-        destination,
+        address_weight(first),
+        address_weight(second),
+        address_weight(destination),
+    ]
+}
+
+// The weights of the addresses of all places. A run makes them once too: not every processor has an instruction that counts ones, and a step
+// shows five weights.
+fn all_weights() -> [u16; PLACES]
+    ensures { λ r. ⌜ Weights r ⌝ }
+{
+    let mut weights = [0u16; PLACES];
+    let mut i = 0;
+    while i < PLACES {
+        weights[i] = address_weight(i);
+        i += 1;
+    }
+    weights
+}
+
+// The weight of a byte, by the table: cell n is place 32 + n.
+fn byte_weight(weights: &[u16; PLACES], byte: u8) -> u16
+    requires { ⌜ Weights (now weights) ⌝ }
+    ensures { λ r. ⌜ r ≡ weight byte ⌝ }
+{
+    weights[32 + (byte as usize)]
+}
+
+// The same row by the table.
+fn tabled_row(
+    line: u16,
+    old: u8,
+    result: u8,
+    first: usize,
+    second: usize,
+    destination: usize,
+    weights: &[u16; PLACES],
+) -> [u16; ROW_WIDTH]
+    requires { ⌜ Weights (now weights) × (first ≤ stateSize) × (second ≤ stateSize) × (destination ≤ stateSize) ⌝ }
+    ensures { λ r. ⌜ r ≡ rowOf line old result first second destination ⌝ }
+{
+    [
+        line,
+        byte_weight(weights, result),
+        byte_weight(weights, old ^ result),
+        weights[first],
+        weights[second],
+        weights[destination],
     ]
 }
 
@@ -370,10 +410,9 @@ pub fn effect_of(m: u16, o: u16, d: u16, a: u16, b: u16, counter: u16, state: &[
     let y = fetch(b, state);
     let args = read_arguments(mark, x, y);
     let result = alu(mark, o, args.first, args.second);
-    let place = destination(d, state);
-    let at = place.at;
+    let at = place_at(d, state);
     let old = read(state, at);
-    let row = row_of(counter, old, result, x.weight, y.weight, place.weight);
+    let row = row_of(counter, old, result, x.at, y.at, at);
     Effect {
         result,
         place: at,
@@ -398,13 +437,6 @@ pub fn next_of(m: u16, o: u16, a: u16, b: u16, t: u16, counter: u16, state: &[u8
     advanced(jumps, target_line(t), counter)
 }
 
-// The place that an operand's number names, past the state where it names none.
-pub fn place_at(code: u16, state: &[u8]) -> usize
-    ensures { λ r. ⌜ r ≡ place (operandOf code) (now (state .entry)) ⌝ }
-{
-    destination(code, state).at
-}
-
 // What a step answers: the next counter, and its trace row.
 struct Done {
     next: u16,
@@ -420,10 +452,11 @@ fn perform(
     b: u16,
     t: u16,
     counter: u16,
-    masks: &[u8; MASKS],
+    masks: &[u8; PLACES],
+    weights: &[u16; PLACES],
     state: &mut [u8],
 ) -> Done
-    requires { ⌜ (counter < 65535) × Masks (now masks) ⌝ }
+    requires { ⌜ (counter < 65535) × Masks (now masks) × Weights (now weights) ⌝ }
     ensures { λ r. ⌜ (r .next ≡ next (lineOf m o d a b t) counter (now (state .entry))) × (r .row ≡ row (lineOf m o d a b t) counter (now (state .entry))) ⌝ }
     ensures { λ r. ⌜ now (state .exit) ≡ after (lineOf m o d a b t) (now (state .entry)) ⌝ }
 {
@@ -435,7 +468,7 @@ fn perform(
     let jumps = is_taken(o, args.first, args.second);
     let next = advanced(jumps, target_line(t), counter);
     let r = replace(d, result, state);
-    let row = row_of(counter, r.old, result, x.weight, y.weight, r.place.weight);
+    let row = tabled_row(counter, r.old, result, x.at, y.at, r.at, weights);
     Done { next, row }
 }
 
@@ -452,31 +485,32 @@ fn write_row(trace: &mut [u16], n: usize, row: [u16; ROW_WIDTH])
     }
 }
 
-// At most `budget` steps of a checked program of `count` lines.
+// At most `budget` steps of a checked program.
 fn run_lines(
     program: &[u16],
-    count: u16,
     start: u16,
     budget: u16,
     state: &mut [u8],
     trace: &mut [u16],
 ) -> Answer
-    requires { ⌜ (count ≤ maxLines) × (rowWidth * budget ≤ length (now trace)) ⌝ }
-    ensures { λ r. ⌜ outcome (report r) (now (state .exit) ∷ now (trace .exit) ∷ []) ≡ runFrom (now (program .entry)) count budget (machine (record { counter = start; steps = 0 }) (now (state .entry)) (now (trace .entry))) ⌝ }
+    requires { ⌜ (lineCount (now program) ≤ maxLines) × (rowWidth * budget ≤ length (now trace)) ⌝ }
+    ensures { λ r. ⌜ outcome (report r) (now (state .exit) ∷ now (trace .exit) ∷ []) ≡ runFrom (now (program .entry)) (lineCount (now (program .entry))) budget (machine (record { counter = start; steps = 0 }) (now (state .entry)) (now (trace .entry))) ⌝ }
 {
+    let count = program.len() / LINE_WIDTH;
     let masks = all_masks();
+    let weights = all_weights();
     let mut run = Run {
         counter: start,
         steps: 0,
     };
-    while run.counter < count {
+    while (run.counter as usize) < count {
         if budget <= run.steps {
             return Answer::Spent {
                 counter: run.counter,
                 steps: run.steps,
             };
         }
-        run = run.step(program, &masks, state, trace);
+        run = run.step(program, &masks, &weights, state, trace);
     }
     Answer::Halted {
         counter: run.counter,
@@ -489,7 +523,7 @@ pub fn run(program: &[u16], start: u16, budget: u16, state: &mut [u8], trace: &m
     ensures { λ r. ⌜ outcome (report r) (now (state .exit) ∷ now (trace .exit) ∷ []) ≡ runOutcome (now (program .entry)) start budget (now (state .entry)) (now (trace .entry)) ⌝ }
 {
     let checked = coding::check_program(program);
-    let Answer::Count(count) = checked else {
+    let Answer::Count(_) = checked else {
         return checked;
     };
     if state.len() != STATE_SIZE {
@@ -504,5 +538,5 @@ pub fn run(program: &[u16], start: u16, budget: u16, state: &mut [u8], trace: &m
             line: 0,
         };
     }
-    run_lines(program, count as u16, start, budget, state, trace)
+    run_lines(program, start, budget, state, trace)
 }

@@ -3,8 +3,8 @@ ghost use mathlib.Core.Path.{_≡_};
 ghost use Prim.Native.Nat.{_+_, _*_, _≤_, _<_};
 ghost use lib.ListN.{length};
 ghost use Rattle.model.specs.Limits.{rowWidth};
-ghost use Rattle.machine.specs.Loop.{Masks, machine, stepOf};
-use super::MASKS;
+ghost use Rattle.machine.specs.Loop.{Masks, Weights, machine, stepOf};
+use super::PLACES;
 
 pub struct Run {
     pub counter: u16,
@@ -16,17 +16,29 @@ impl Run {
     pub fn step(
         self,
         program: &[u16],
-        masks: &[u8; MASKS],
+        masks: &[u8; PLACES],
+        weights: &[u16; PLACES],
         state: &mut [u8],
         trace: &mut [u16],
     ) -> Run
-        requires { ⌜ Masks (now masks) × (self .counter < 65535) × (self .steps < 65535) × (rowWidth * self .steps + rowWidth ≤ length (now trace)) ⌝ }
+        requires { ⌜ Masks (now masks) × Weights (now weights) × (self .counter < 65535) × (self .steps < 65535) × (rowWidth * self .steps + rowWidth ≤ length (now trace)) ⌝ }
         ensures { λ r. ⌜ machine r (now (state .exit)) (now (trace .exit)) ≡ stepOf (now (program .entry)) (machine self (now (state .entry)) (now (trace .entry))) ⌝ }
     {
         let counter = self.counter;
         let steps = self.steps;
         let n = coding::numbers_at(program, counter as usize);
-        let done = super::perform(n[0], n[1], n[2], n[3], n[4], n[5], counter, masks, state);
+        let done = super::perform(
+            n[0],
+            n[1],
+            n[2],
+            n[3],
+            n[4],
+            n[5],
+            counter,
+            masks,
+            weights,
+            state,
+        );
         let row = done.row;
         super::write_row(trace, steps as usize, row);
         Run {

@@ -1,29 +1,17 @@
--- `machine::all_masks` meets its contract. The loop's invariant: the first i masks stand. Assumes nothing.
+-- `machine::all_masks` meets its contract. The loop's invariant: the first i entries stand. Assumes nothing.
 use mathlib.Core.Path.{_≡_, _∙_}
-use mathlib.Core.List.{List}
-use Prim.Native.Nat.{ℕ, _+_, _-_, _≤_, _<_}
-use native.Mathlib.Decide.{ℕ-discrete}
+use Prim.Native.Nat.{_+_, _-_, _≤_}
 use native.Mathlib.Omega.{arith}
-use lib.ListN.{length, getD, set, length-set}
-use lib.Seq.{getD-set-same, getD-set-other}
+use lib.ListN.{length, length-set}
 use borrow.Author.Needs.{needs}
 use Rattle.model.specs.Limits.{stateSize}
 use Rattle.machine.specs.Loop.{mask}
+use Rattle.machine.proofs.PlaceTables.{First, first-more, first-all}
 use Rattle.machine.proofs.all_masks.Statement.{statement}
 use Rattle.machine.proofs.all_masks.Tie as tie
 
-abbrev First : List ℕ → ℕ → Type 0
-First ms i = (j : ℕ) → j < i → getD ms j 0 ≡ mask j
-
-one-more : (ms : List ℕ) (i x : ℕ) → i < length ms → x ≡ mask i → First ms i → First (set ms i x) (i + 1)
-one-more ms i x h e f j g = go (ℕ-discrete j i)
-  where
-    go : Dec (j ≡ i) → getD (set ms i x) j 0 ≡ mask j
-    go (yes q) = rw q (getD-set-same ms i x 0 h ∙ e)
-    go (no n) = getD-set-other ms i j x 0 n ∙ f j (omega (arith, n))
-
 abbrev Inv-loop : tie.InvT-loop
-Inv-loop masks₀ i₀ masks i = (i ≤ stateSize + 1) × (length masks ≡ stateSize + 1) × First masks i
+Inv-loop masks₀ i₀ masks i = (i ≤ stateSize + 1) × (length masks ≡ stateSize + 1) × First mask masks i
 
 abbrev μ-loop : tie.MeasureT-loop
 μ-loop masks₀ i₀ masks i = stateSize + 1 - i
@@ -46,10 +34,10 @@ loop-less c = search needs
 loop-again : tie.Need-loop-again Inv-loop μ-loop
 loop-again c =
     let l = c .before .before .loop in
-    (omega arith, length-set (l .masks) (l .i) _ ∙ l .inv .1, one-more (l .masks) (l .i) _ (omega (arith, l .inv .1)) (c .mask-at .ensures) (l .inv .2))
+    (omega arith, length-set (l .masks) (l .i) _ ∙ l .inv .1, first-more mask (l .masks) (l .i) _ (omega (arith, l .inv .1)) (c .mask-at .ensures) (l .inv .2))
 
 returns : tie.Need-returns Inv-loop μ-loop
-returns c = λ i h. c .before .loop .inv .2 i (omega arith)
+returns c = first-all mask (c .before .loop .masks) (c .before .loop .i) (omega arith) (c .before .loop .inv .2)
 
 pub all-masks-spec : {M : Type 1} → statement M
 all-masks-spec =

@@ -13,28 +13,27 @@ use Rattle.model.specs.Stored.{opcodeOf, lineOf}
 use Rattle.model.specs.Step.{weight, alu, taken, targetLine, result, next, after, row}
 use Rattle.machine.specs.declared.Arguments.{Arguments}
 use Rattle.machine.specs.declared.Fetched.{Fetched}
-use Rattle.machine.specs.declared.Place.{Place}
-use Rattle.machine.specs.Loop.{placeOf, fetchOf, argumentsOf, rowOf}
-use Rattle.machine.proofs.NamedPlaces.{fetched-most, arguments-read}
+use Rattle.machine.specs.Loop.{fetchOf, argumentsOf, addressAt, rowOf}
+use Rattle.machine.proofs.NamedPlaces.{place-most, fetched-most, address-at, arguments-read}
 use Rattle.machine.proofs.perform.Statement.{statement}
 use Rattle.machine.proofs.perform.Tie as tie
 
 -- what a step answers and leaves, over plain values
-performed : (l : Line) (k : ℕ) (s s′ : State) (m : Mark) (p : Opcode) (j : Bool) (x y : Fetched) (z : Arguments) (q : Place) (g n r o : ℕ) (t : List ℕ)
+performed : (l : Line) (k : ℕ) (s s′ : State) (m : Mark) (p : Opcode) (j : Bool) (x y : Fetched) (z : Arguments) (q g n r o : ℕ) (t : List ℕ)
     → m ≡ l .mark → p ≡ l .opcode → x ≡ fetchOf (l .first) s → y ≡ fetchOf (l .second) s → z ≡ argumentsOf m x y
     → r ≡ alu m p (z .first) (z .second) → j ≡ taken p (z .first) (z .second) → g ≡ targetLine (l .target) → n ≡ cond j g (suc k)
-    → q ≡ placeOf (l .destination) s → o ≡ getD s (q .at) 0 → s′ ≡ set s (q .at) r
-    → t ≡ rowOf k o r (x .weight) (y .weight) (q .weight)
+    → q ≡ place (l .destination) s → o ≡ getD s q 0 → s′ ≡ set s q r
+    → addressAt (place (l .first) s) ≡ address (l .first) s → addressAt (place (l .second) s) ≡ address (l .second) s
+    → addressAt (place (l .destination) s) ≡ address (l .destination) s → t ≡ rowOf k o r (x .at) (y .at) q
     → ((n ≡ next l k s) × (t ≡ row l k s)) × (s′ ≡ after l s)
 unfolding next row after result
-performed l k s s′ m p j x y z q g n r o t em ep ex ey ez er ej eg en eq eo es et =
+performed l k s s′ m p j x y z q g n r o t em ep ex ey ez er ej eg en eq eo es ax ay aq et =
     let ab = arguments-read m (l .first) (l .second) s x y z ex ey ez in
     let a = ab .0 in
     let b = ab .1 in
-    let v : x .weight ≡ weight (address (l .first) s) = ap (λ (z : Fetched). z .weight) ex in
-    let w : y .weight ≡ weight (address (l .second) s) = ap (λ (z : Fetched). z .weight) ey in
-    let e : q .at ≡ place (l .destination) s = ap (λ (z : Place). z .at) eq in
-    let f : q .weight ≡ weight (address (l .destination) s) = ap (λ (z : Place). z .weight) eq in
+    let v : weight (addressAt (x .at)) ≡ weight (address (l .first) s) = rw (ex, ax) in
+    let w : weight (addressAt (y .at)) ≡ weight (address (l .second) s) = rw (ey, ay) in
+    let f : weight (addressAt q) ≡ weight (address (l .destination) s) = rw (eq, aq) in
     ((cc, cc), cc)
 
 mark-of-requires : tie.Need-mark-of-requires
@@ -66,8 +65,10 @@ advanced-requires c κs = search needs
 replace-requires : tie.Need-replace-requires
 replace-requires c κs = search needs
 
-row-of-requires : tie.Need-row-of-requires
-row-of-requires c κs = search needs
+tabled-row-requires : tie.Need-tabled-row-requires
+tabled-row-requires c κs =
+    let s = c .before .before .before .before .before .before .before .before .before .before .before .before .before .before .before .args in
+    (c .before .before .before .before .before .before .before .before .before .before .before .before .before .before .before .pre .2, fetched-most (s .state .now) (s .a) _ (c .before .before .before .before .before .before .before .before .before .before .before .fetch .ensures), fetched-most (s .state .now) (s .b) _ (c .before .before .before .before .before .before .before .before .before .fetch2 .ensures), rw (c .before .before .replace .ensures .0 .0) (place-most (s .state .now) (s .d)))
 
 same-length : tie.Need-same-length
 same-length c = search needs
@@ -86,10 +87,11 @@ returns c =
     let s = m .before .before in
     performed (lineOf (s .args .m) (s .args .o) (s .args .d) (s .args .a) (s .args .b) (s .args .t)) (s .args .counter) (s .args .state .now) _
     (m .mark-of .result) (opcodeOf (s .args .o)) (j .is-taken .result) (x .fetch .result) (y .fetch2 .result) (z .mask-arguments .result)
-    (w .replace .result .place) _ _ _ _ (c .row-of .result)
+    (w .replace .result .at) _ _ _ _ (c .tabled-row .result)
     (m .mark-of .ensures) refl (x .fetch .ensures) (y .fetch2 .ensures) (z .mask-arguments .ensures)
     (r .alu .ensures) (j .is-taken .ensures) (g .target-line .ensures) (n .advanced .ensures)
-    (w .replace .ensures .0 .0) (w .replace .ensures .0 .1) (w .replace .ensures .1) (c .row-of .ensures)
+    (w .replace .ensures .0 .0) (w .replace .ensures .0 .1) (w .replace .ensures .1)
+    (address-at _ (s .args .a)) (address-at _ (s .args .b)) (address-at _ (s .args .d)) (c .tabled-row .ensures)
 
 pub perform-spec : {M : Type 1} → statement M
 perform-spec =
@@ -104,6 +106,6 @@ perform-spec =
     target-line-requires
     advanced-requires
     replace-requires
-    row-of-requires
+    tabled-row-requires
     same-length
     returns)

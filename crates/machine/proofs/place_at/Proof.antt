@@ -1,15 +1,18 @@
--- `machine::place_at` meets its contract: a part of what `destination` answers. Assumes nothing.
-use mathlib.Core.Path.{ap}
+-- `machine::place_at` meets its contract: an empty field and a literal name no place. Assumes nothing.
+use mathlib.Core.Path.{sym}
+use Rattle.machine.proofs.NamedPlaces.{no-place}
 use borrow.Author.Needs.{needs}
-use Rattle.machine.specs.declared.Place.{Place}
 use Rattle.machine.proofs.place_at.Statement.{statement}
 use Rattle.machine.proofs.place_at.Tie as tie
 
-destination-requires : tie.Need-destination-requires
-destination-requires c κs = search needs
-
 returns : tie.Need-returns
-returns c = ap (λ (z : Place). z .at) (c .destination .ensures)
+returns c = sym (no-place _ (c .before .before .args .state .now) (c .if1 .taken))
+
+place-of-requires : tie.Need-place-of-requires
+place-of-requires c κs = search needs
+
+returns-2 : tie.Need-returns-2
+returns-2 c = search needs
 
 pub place-at-spec : {M : Type 1} → statement M
-place-at-spec = tie.close (tie.spec destination-requires returns)
+place-at-spec = tie.close (tie.spec returns place-of-requires returns-2)

@@ -3,8 +3,8 @@ use borrow.Author.Needs.{needs}
 use Rattle.machine.proofs.replace.Statement.{statement}
 use Rattle.machine.proofs.replace.Tie as tie
 
-destination-requires : tie.Need-destination-requires
-destination-requires c κs = search needs
+place-at-requires : tie.Need-place-at-requires
+place-at-requires c κs = search needs
 
 read-requires : tie.Need-read-requires
 read-requires c κs = search needs
@@ -20,4 +20,4 @@ returns c = search needs
 
 pub replace-spec : {M : Type 1} → statement M
 replace-spec =
-    tie.close (tie.spec destination-requires read-requires write-requires same-length returns)
+    tie.close (tie.spec place-at-requires read-requires write-requires same-length returns)

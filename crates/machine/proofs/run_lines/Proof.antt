@@ -5,24 +5,31 @@ use Prim.Native.Nat.{_≤_, _-_}
 use native.Mathlib.Omega.{arith}
 use lib.ListN.{length}
 use borrow.Author.Needs.{needs}
+use Rattle.model.specs.Stored.{lineCount}
 use Rattle.machine.specs.Loop.{machine, runFrom}
 use Rattle.machine.proofs.Loops.{begins, halts, spends, goes-on, tally}
 use Rattle.machine.proofs.run_lines.Statement.{statement}
 use Rattle.machine.proofs.run_lines.Tie as tie
 
 abbrev Inv-loop : tie.InvT-loop
-Inv-loop program count start budget state₀ trace₀ masks run₀ state trace run =
+Inv-loop program start budget state₀ trace₀ count masks weights run₀ state trace run =
     (run .steps ≤ budget) × (length state ≡ length state₀) × (length trace ≡ length trace₀)
-    × (runFrom program count (budget - run .steps) (machine run state trace) ≡ runFrom program count budget (machine run₀ state₀ trace₀))
+    × (runFrom program (lineCount program) (budget - run .steps) (machine run state trace) ≡ runFrom program (lineCount program) budget (machine run₀ state₀ trace₀))
 
 abbrev μ-loop : tie.MeasureT-loop
-μ-loop program count start budget state₀ trace₀ masks run₀ state trace run = budget - run .steps
+μ-loop program start budget state₀ trace₀ count masks weights run₀ state trace run = budget - run .steps
 
 all-masks-requires : tie.Need-all-masks-requires Inv-loop μ-loop
 all-masks-requires c κs = search needs
 
+all-weights-requires : tie.Need-all-weights-requires Inv-loop μ-loop
+all-weights-requires c κs = search needs
+
 loop-holds : tie.Need-loop-holds Inv-loop μ-loop
 loop-holds c = (search needs, search needs, search needs, begins _ _ _ _)
+
+cast-if1 : tie.Need-cast-if1 Inv-loop μ-loop
+cast-if1 c = search needs
 
 same-length : tie.Need-same-length Inv-loop μ-loop
 same-length c = c .before .before .before .before .loop .inv .1
@@ -36,22 +43,22 @@ returns c =
     sym (spends _ _ _ (machine (l .run) (l .state) (l .trace)) (c .before .before .if1 .taken) (omega arith)) ∙ l .inv .3
 
 step-requires : tie.Need-step-requires Inv-loop μ-loop
-step-requires c κs = (c .before .before .before .before .before .before .before .before .all-masks .ensures, omega arith, omega arith, omega arith)
+step-requires c κs = (c .before .before .before .before .before .before .before .before .before .before .all-masks .ensures, c .before .before .before .before .before .before .before .before .before .all-weights .ensures, omega arith, omega arith, omega arith)
 
 loop-less : tie.Need-loop-less Inv-loop μ-loop
 loop-less c =
-    let l = c .before .before .before .before .before .before .before .before .before .before .before .before .loop in
-    omega (arith, tally (c .before .before .before .before .before .before .before .before .before .before .before .before .before .before .before .before .before .args .program .now) (machine (l .run) (l .state) (l .trace)) _ (c .before .before .before .before .step .ensures))
+    let l = c .before .before .before .before .before .before .before .before .before .before .before .before .before .loop in
+    omega (arith, tally (c .before .before .before .before .before .before .before .before .before .before .before .before .before .before .before .before .before .before .before .args .program .now) (machine (l .run) (l .state) (l .trace)) _ (c .before .before .before .before .step .ensures))
 
 loop-again : tie.Need-loop-again Inv-loop μ-loop
 loop-again c =
-    let l = c .before .before .before .before .before .before .before .before .before .before .before .before .loop in
+    let l = c .before .before .before .before .before .before .before .before .before .before .before .before .before .loop in
     let f = c .before .before .before .before .step in
-    let p = c .before .before .before .before .before .before .before .before .before .before .before .before .before .before .before .before .before .args .program .now in (
+    let p = c .before .before .before .before .before .before .before .before .before .before .before .before .before .before .before .before .before .before .before .args .program .now in (
       omega (arith, tally p (machine (l .run) (l .state) (l .trace)) _ (f .ensures)),
-      f .kept .1 .1 .1 .0 ∙ l .inv .1,
-      f .kept .1 .1 .1 .1 .0 ∙ l .inv .2,
-      goes-on p _ _ (machine (l .run) (l .state) (l .trace)) _ _ (c .before .before .before .before .before .before .before .before .before .before .if1 .taken) (c .before .before .before .before .before .before .before .before .if2 .left) (f .ensures) (l .inv .3),
+      f .kept .1 .1 .1 .1 .0 ∙ l .inv .1,
+      f .kept .1 .1 .1 .1 .1 .0 ∙ l .inv .2,
+      goes-on p _ _ (machine (l .run) (l .state) (l .trace)) _ _ (c .before .before .before .before .before .before .before .before .before .before .before .if1 .taken) (c .before .before .before .before .before .before .before .before .before .if2 .left) (f .ensures) (l .inv .3),
     )
 
 same-length-3 : tie.Need-same-length-3 Inv-loop μ-loop
@@ -72,7 +79,9 @@ run-lines-spec =
     Inv-loop
     μ-loop
     all-masks-requires
+    all-weights-requires
     loop-holds
+    cast-if1
     same-length
     same-length-2
     returns

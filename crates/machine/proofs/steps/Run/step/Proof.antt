@@ -50,7 +50,7 @@ array-read-perform-6 : tie.Need-array-read-perform-6
 array-read-perform-6 c = search needs
 
 perform-requires : tie.Need-perform-requires
-perform-requires c κs = (search needs, c .before .before .before .before .before .pre .0)
+perform-requires c κs = (search needs, c .before .before .before .before .before .pre .0, c .before .before .before .before .before .pre .1)
 
 cast-write-row : tie.Need-cast-write-row
 cast-write-row c = search needs
@@ -58,8 +58,8 @@ cast-write-row c = search needs
 write-row-requires : tie.Need-write-row-requires
 write-row-requires c κs = search needs
 
-add-t30 : tie.Need-add-t30
-add-t30 c = search needs
+add-t31 : tie.Need-add-t31
+add-t31 c = search needs
 
 same-length : tie.Need-same-length
 same-length c = search needs
@@ -89,7 +89,7 @@ step-spec =
     perform-requires
     cast-write-row
     write-row-requires
-    add-t30
+    add-t31
     same-length
     same-length-2
     returns)
