@@ -64,7 +64,7 @@ pub extern "C" fn dualrail_write(program: &[u16], out: &mut [u8]) -> u64
 pub extern "C" fn dualrail_check(program: &[u16]) -> u64
     ensures { λ r. ⌜ r ≡ packed (markCheck (now (program .entry))) ⌝ }
 {
-    pack(expander::check(program))
+    pack(marks::check(program))
 }
 
 #[no_mangle]

@@ -84,7 +84,7 @@ fn writes(line: &[u8], program: &[u16], bytes: &mut [u8]) -> bool {
 }
 
 fn checks(line: &[u8], program: &[u16]) -> bool {
-    is_right(line, expander::check(program), b"", &[0u16; 0])
+    is_right(line, marks::check(program), b"", &[0u16; 0])
 }
 
 // The expansion is compared as text.

@@ -1,5 +1,3 @@
-pub mod NumberTests
-pub mod MarkWalk
 pub mod PartNumbers
 pub mod PartSizes
 pub mod StoreWrites
@@ -7,5 +5,4 @@ pub mod PieceWrites
 pub mod StartTable
 pub mod JoinedParts
 pub mod Outcomes
-pub mod UsualOperands
 pub mod OpcodeNumbers

@@ -10,38 +10,23 @@ use Rattle.model.specs.declared.Layout.{Layout}
 use Rattle.model.specs.declared.Opcode.{Opcode}
 use Rattle.model.specs.declared.Operand.{Operand}
 use Rattle.model.specs.Stored.{opcodeOf}
-use Rattle.model.specs.Marks.{hasMacro}
 use Rattle.expander.specs.Opcodes.{hasTable, unary}
 
 -- an opcode without a macro
 record Bare (op : Opcode) : Type 0 where
-  no-macro : hasMacro op ≡ false
   no-table : hasTable op ≡ false
   nothing : (L : Layout) (d a : Operand) → unary L op d a ≡ []
 
 -- from lsl on, number 7
 high : (n : ℕ) → Bare (opcodeOf (suc (suc (suc (suc (suc (suc (suc n))))))))
-unfolding hasMacro unary
-high zero = record { no-macro = refl; no-table = refl; nothing = λ L d a. refl }
-high (suc zero) = record { no-macro = refl; no-table = refl; nothing = λ L d a. refl }
-high (suc (suc zero)) = record { no-macro = refl; no-table = refl; nothing = λ L d a. refl }
-high (suc (suc (suc zero))) = record { no-macro = refl; no-table = refl; nothing = λ L d a. refl }
-high (suc (suc (suc (suc zero)))) = record { no-macro = refl; no-table = refl; nothing = λ L d a. refl }
-high (suc (suc (suc (suc (suc zero))))) = record { no-macro = refl; no-table = refl; nothing = λ L d a. refl }
-high (suc (suc (suc (suc (suc (suc n)))))) = record { no-macro = refl; no-table = refl; nothing = λ L d a. refl }
-
-pub macro-number : (n : ℕ) → (leb 2 n && leb n 6) ≡ hasMacro (opcodeOf n)
-unfolding hasMacro
-macro-number zero = refl
-macro-number (suc zero) = refl
-macro-number (suc (suc zero)) = refl
-macro-number (suc (suc (suc zero))) = refl
-macro-number (suc (suc (suc (suc zero)))) = refl
-macro-number (suc (suc (suc (suc (suc zero))))) = refl
-macro-number (suc (suc (suc (suc (suc (suc zero)))))) = refl
-macro-number (suc (suc (suc (suc (suc (suc (suc n))))))) =
-    let m = suc (suc (suc (suc (suc (suc (suc n)))))) in
-    rw (le-leb 2 m (omega arith), lt-leb m 6 (omega arith)) (sym (high n .no-macro))
+unfolding unary
+high zero = record { no-table = refl; nothing = λ L d a. refl }
+high (suc zero) = record { no-table = refl; nothing = λ L d a. refl }
+high (suc (suc zero)) = record { no-table = refl; nothing = λ L d a. refl }
+high (suc (suc (suc zero))) = record { no-table = refl; nothing = λ L d a. refl }
+high (suc (suc (suc (suc zero)))) = record { no-table = refl; nothing = λ L d a. refl }
+high (suc (suc (suc (suc (suc zero))))) = record { no-table = refl; nothing = λ L d a. refl }
+high (suc (suc (suc (suc (suc (suc n)))))) = record { no-table = refl; nothing = λ L d a. refl }
 
 pub table-number : (n : ℕ) → (leb 4 n && leb n 6) ≡ hasTable (opcodeOf n)
 table-number zero = refl

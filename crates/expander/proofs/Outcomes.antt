@@ -1,4 +1,4 @@
--- What the mark check and the expander answer, and what the lent store holds afterwards.
+-- What the expander answers, and what the lent store holds afterwards.
 -- Assumes nothing.
 use mathlib.Core.Path.{_≡_, sym, _∙_}
 use mathlib.Core.List.{List, [], _∷_, flatMap}
@@ -11,28 +11,18 @@ use Rattle.model.specs.Layouts.{Known}
 use Rattle.model.specs.declared.Answer.{Answer}
 use Rattle.model.specs.declared.Answer.the-variants.{Count}
 use Rattle.model.specs.Answers.{report, outcome, counted, refused}
-use Rattle.model.specs.Stored.{codes, lineCount, lines, programCheck}
+use Rattle.model.specs.Stored.{codes, lineCount, lines}
 use Rattle.model.specs.Expansion.{expansionIn, start, joined, expand, written}
 use Rattle.model.specs.Limits.{maxAccepted, longest}
-use Rattle.model.specs.Marks.{marksOf, markCheck, Accepted}
+use Rattle.model.specs.Marks.{markCheck, Accepted}
 use Rattle.model.proofs.StoredLaws.{length-lines, codes-length}
 use Rattle.model.proofs.Acceptance.{accepted-right}
 use Rattle.model.proofs.ExpansionLaws.{expand-length, expansion-most, expansion-correct, joined-same, mark-accepted}
-use Rattle.model.proofs.CheckAnswers.{program-answers, mark-answers, NoCount, count-told, no-count-refuses, handed-on}
+use Rattle.model.proofs.CheckAnswers.{mark-answers, NoCount, count-told, handed-on}
 use Rattle.expander.specs.Starts.{lookedUp, Starts}
 use Rattle.expander.specs.Writes.{put}
 use Rattle.expander.proofs.StoreWrites.{stored-correct}
 use Rattle.expander.proofs.StartTable.{starts-found, starts-last}
-
--- ---- the mark check
-
-pub check-stops : (p : List ℕ) (a : Answer) → NoCount a → report a ≡ programCheck p → report a ≡ markCheck p
-unfolding markCheck
-check-stops p a k e = e ∙ rw (no-count-refuses a k (program-answers p) e .is)
-
-pub check-goes-on : (p : List ℕ) (a r : Answer) (n : ℕ) → report a ≡ programCheck p → a ≡ Count n → report r ≡ marksOf (lines p) → report r ≡ markCheck p
-unfolding markCheck
-check-goes-on p a r n e q w = rw (count-told q e) w
 
 -- ---- the expansion of an accepted program
 

@@ -1,4 +1,3 @@
 pub mod Opcodes
 pub mod Starts
-pub mod Usual
 pub mod Writes

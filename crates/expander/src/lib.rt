@@ -1,12 +1,11 @@
-// 'Code, tables, macros' of document 01, the macros: the mark check (conditions 9 to 16) and the expansion (23, 17) of stored programs.
-// marks.rt has the conditions of a line, macros.rt the lines that a line becomes, starts.rt the starts of the lines' parts, writing.rt
-// the parts in a lent store.
+// 'Code, tables, macros' of document 01, the macros: the expansion (23, what the mark check refuses, 17) of stored programs.
+// macros.rt has the lines that a line becomes, starts.rt the starts of the lines' parts, writing.rt the parts in a lent store.
 ghost use mathlib.Core.Path.{_≡_};
 ghost use mathlib.Core.List.{[], _∷_};
 ghost use Rattle.model.specs.Answers.{report, outcome};
 ghost use Rattle.model.specs.Layouts.{Known};
 ghost use Rattle.model.specs.Stored.{lines};
-ghost use Rattle.model.specs.Marks.{markCheck, Accepted};
+ghost use Rattle.model.specs.Marks.{Accepted};
 ghost use Rattle.model.specs.Expansion.{expansionIn, expandOutcome, expand as expansionOf, written};
 use model::Answer;
 use model::LINE_WIDTH;
@@ -14,20 +13,8 @@ use model::Layout;
 use starts::STARTS;
 
 mod macros;
-mod marks;
 mod starts;
 mod writing;
-
-// The mark check of a stored program: its line count, or 7, 3 to 6, then 9 to 16.
-pub fn check(program: &[u16]) -> Answer
-    ensures { λ r. ⌜ report r ≡ markCheck (now (program .entry)) ⌝ }
-{
-    let checked = coding::check_program(program);
-    let Answer::Count(_) = checked else {
-        return checked;
-    };
-    marks::check_marks(program)
-}
 
 // The expansion of an accepted program: its count of lines, or 17 with nothing touched.
 fn write_expansion(layout: Layout, program: &[u16], out: &mut [u16]) -> Answer
@@ -53,7 +40,7 @@ fn make_expansion(layout: Layout, program: &[u16], out: &mut [u16]) -> Answer
     requires { ⌜ Known layout ⌝ }
     ensures { λ r. ⌜ outcome (report r) (now (out .exit) ∷ []) ≡ expansionIn layout (now (program .entry)) (now (out .entry)) ⌝ }
 {
-    let checked = check(program);
+    let checked = marks::check(program);
     let Answer::Count(_) = checked else {
         return checked;
     };

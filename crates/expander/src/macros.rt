@@ -12,7 +12,7 @@ ghost use Rattle.model.specs.Stored.{targetCode, opcodeOf, operandOf, lineAt};
 ghost use Rattle.model.specs.Expansion.{coded, markedLine, move, precharged, codeBit, load, scale, combine, fetch, flip, writeBack, lookup, negate, copy, macro, size};
 ghost use Rattle.expander.specs.Opcodes.{hasTable, tableOf, unary};
 ghost use Rattle.expander.specs.Writes.{lineWith, Wrote};
-use super::marks::names_public;
+use marks::names_public;
 use model::LINE_WIDTH;
 use model::Layout;
 use model::Mark;

@@ -1,0 +1,3 @@
+pub mod NumberTests
+pub mod MarkWalk
+pub mod UsualOperands
