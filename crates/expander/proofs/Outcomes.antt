@@ -17,51 +17,45 @@ use Rattle.model.specs.Limits.{maxAccepted, longest}
 use Rattle.model.specs.Marks.{markCheck, Accepted}
 use Rattle.model.proofs.StoredLaws.{length-lines, codes-length}
 use Rattle.model.proofs.Acceptance.{accepted-right}
-use Rattle.model.proofs.ExpansionLaws.{expand-length, expansion-most, expansion-correct, joined-same, mark-accepted}
+use Rattle.model.proofs.ExpansionLaws.{expand-length, expansion-most, expansion-correct, mark-accepted}
 use Rattle.model.proofs.CheckAnswers.{mark-answers, NoCount, count-told, handed-on}
-use Rattle.expander.specs.Starts.{lookedUp, Starts}
+use Rattle.expander.specs.Starts.{lookedUp, Starts, LookedUp}
 use Rattle.expander.specs.Writes.{put}
 use Rattle.expander.proofs.StoreWrites.{stored-correct}
-use Rattle.expander.proofs.StartTable.{starts-found, starts-last}
+use Rattle.expander.proofs.StartTable.{looked-up, starts-last}
 
 -- ---- the expansion of an accepted program
 
 pub accepted-few : (p : List ℕ) → Accepted (lines p) → lineCount p ≤ maxAccepted
 accepted-few p A = omega (arith, accepted-right (lines p) A .few, length-lines p)
 
-module _ (L : Layout) (K : Known L) (p starts out : List ℕ) (A : Accepted (lines p)) (S : Starts L starts (lines p) (lineCount p)) where
-  whole-length : length (expand L (lines p)) ≡ start L (lines p) (lineCount p)
-  whole-length = expand-length L (lines p) (lineCount p) (sym (length-lines p))
-
-  same-expansion : joined L (lookedUp starts) (lines p) ≡ expand L (lines p)
-  unfolding expand
-  same-expansion =
-      joined-same L (lookedUp starts) (start L (lines p)) (length (lines p))
-      (λ k h. starts-found L starts (lines p) (lineCount p) (accepted-few p A) S k (omega (arith, length-lines p))) (lines p) (accepted-right (lines p) A .right)
-
+module _ (L : Layout) (K : Known L) (p starts out : List ℕ) (A : Accepted (lines p)) (S : Starts L starts (lines p)) where
   -- the last start, which is the length of the expansion
-  pub total-is : getD starts (lineCount p) 0 ≡ start L (lines p) (lineCount p)
-  total-is = starts-last L starts (lines p) (lineCount p) S
+  total-is : getD starts (lineCount p) 0 ≡ length (expand L (lines p))
+  total-is = starts-last L starts p (accepted-few p A) S
+
+  pub total-start : getD starts (lineCount p) 0 ≡ start L (lines p) (lineCount p)
+  total-start = total-is ∙ expand-length L (lines p) (lineCount p) (sym (length-lines p))
 
   pub total-few : getD starts (lineCount p) 0 ≤ longest * maxAccepted
-  total-few = omega (arith, total-is, whole-length, expansion-most L K (lines p) A)
+  total-few = omega (arith, total-is, expansion-most L K (lines p) A)
 
   pub no-room : lineCount out < getD starts (lineCount p) 0 → outcome (refused 17 0) (out ∷ []) ≡ written (expand L (lines p)) out
   unfolding written
-  no-room h = rw (lt-ltb (lineCount out) (length (expand L (lines p))) (omega (arith, total-is, whole-length)))
+  no-room h = rw (lt-ltb (lineCount out) (length (expand L (lines p))) (omega (arith, total-is)))
 
   pub all-written : (o : List ℕ) → getD starts (lineCount p) 0 ≤ lineCount out → o ≡ put out 0 (joined L (lookedUp starts) (lines p))
       → outcome (counted (getD starts (lineCount p) 0)) (o ∷ []) ≡ written (expand L (lines p)) out
-  unfolding written put
+  unfolding written put LookedUp
   all-written o h e =
       let q : 6 * (0 + length (expand L (lines p))) ≡ length (flatMap codes (expand L (lines p))) = omega (arith, codes-length (expand L (lines p))) in
       rw (
         e,
-        same-expansion,
+        looked-up L starts (lines p) A S,
         stored-correct (expand L (lines p)) (expansion-correct L K (lines p) A),
         q,
-        le-ltb (lineCount out) (length (expand L (lines p))) (omega (arith, total-is, whole-length)),
-        total-is ∙ sym whole-length,
+        le-ltb (lineCount out) (length (expand L (lines p))) (omega (arith, total-is)),
+        total-is,
       )
 
 -- ---- the expansion of any stored program

@@ -1,4 +1,4 @@
-// The starts of the lines' parts: added up once, then looked up.
+// The starts of the lines' parts: added up once, then looked up (request 05).
 ghost use mathlib.Core.Path.{_≡_};
 ghost use Prim.Native.Nat.{_+_, _%_, _≤_};
 ghost use lib.ListN.{length};
@@ -14,10 +14,10 @@ use model::MAX_ACCEPTED;
 // How many starts there are at most: one for each line, and one for the end.
 pub const STARTS: usize = MAX_ACCEPTED + 1;
 
-// The starts of the lines and of the end.
+// The starts of the lines and of the end, each the one before and that line's length: what is looked up in them is each line's and the end's.
 pub fn fill_starts(layout: Layout, program: &[u16], starts: &mut [u16; STARTS])
     requires { ⌜ (lineCount (now program) ≤ maxAccepted) × (length (now starts) ≡ maxAccepted + 1) ⌝ }
-    ensures { λ r. ⌜ Starts layout (now (starts .exit)) (lines (now (program .entry))) (lineCount (now (program .entry))) ⌝ }
+    ensures { λ r. ⌜ Starts layout (now (starts .exit)) (lines (now (program .entry))) ⌝ }
 {
     let count = program.len() / LINE_WIDTH;
     let mut i = 0;

@@ -2,7 +2,7 @@
 -- looked up are those of the definition. Assumes nothing.
 use native.Mathlib.Omega.{arith}
 use mathlib.Core.Path.{refl}
-use Rattle.expander.proofs.Outcomes.{accepted-few, total-is, total-few, no-room, all-written}
+use Rattle.expander.proofs.Outcomes.{accepted-few, total-start, total-few, no-room, all-written}
 use borrow.Author.Needs.{needs}
 use Rattle.expander.proofs.write_expansion.Statement.{statement}
 use Rattle.expander.proofs.write_expansion.Tie as tie
@@ -33,7 +33,7 @@ returns c =
 put-parts-requires : tie.Need-put-parts-requires
 put-parts-requires c κs =
     let s = c .before .before .before .before .before .before .before in
-    omega (arith, total-is (s .args .layout) (s .pre .0) (s .args .program .now) _ (s .args .out .now) (s .pre .1) (c .before .before .before .fill-starts .ensures), c .before .before .if1 .left)
+    omega (arith, total-start (s .args .layout) (s .pre .0) (s .args .program .now) _ (s .args .out .now) (s .pre .1) (c .before .before .before .fill-starts .ensures), c .before .before .if1 .left)
 
 cast-t19 : tie.Need-cast-t19
 cast-t19 c =

@@ -9,13 +9,12 @@ use Rattle.model.specs.Limits.{maxAccepted, longest}
 use Rattle.model.specs.Stored.{lineAt, lines}
 use Rattle.model.specs.Expansion.{start}
 use Rattle.model.proofs.ExpansionLaws.{size-most}
-use Rattle.expander.specs.Starts.{Starts}
-use Rattle.expander.proofs.StartTable.{start-zero, start-next, starts-none, starts-more, starts-all}
+use Rattle.expander.proofs.StartTable.{start-zero, start-next, UpTo, up-to-none, up-to-next, starts-all}
 use Rattle.expander.proofs.starts.fill_starts.Statement.{statement}
 use Rattle.expander.proofs.starts.fill_starts.Tie as tie
 
 abbrev Inv-loop : tie.InvT-loop
-Inv-loop layout program starts₀ count i₀ sum₀ starts i sum = (i ≤ count) × (sum ≤ longest * i) × (sum ≡ start layout (lines program) i) × (length starts ≡ maxAccepted + 1) × Starts layout starts (lines program) i
+Inv-loop layout program starts₀ count i₀ sum₀ starts i sum = (i ≤ count) × (sum ≤ longest * i) × (sum ≡ start layout (lines program) i) × (length starts ≡ maxAccepted + 1) × UpTo layout starts (lines program) i
 
 abbrev μ-loop : tie.MeasureT-loop
 μ-loop layout program starts₀ count i₀ sum₀ starts i sum = count - i
@@ -26,7 +25,7 @@ element-write-starts c = search needs
 loop-holds : tie.Need-loop-holds Inv-loop μ-loop
 loop-holds c =
     let s = c .before in
-    (omega arith, omega arith, sym (start-zero (s .args .layout) (lines (s .args .program .now))), simp length-set (s .pre .1), starts-none (s .args .layout) (s .args .starts .now) _ (omega (arith, s .pre .1)))
+    (omega arith, omega arith, sym (start-zero (s .args .layout) (lines (s .args .program .now))), simp length-set (s .pre .1), up-to-none (s .args .layout) (s .args .starts .now) _ (omega (arith, s .pre .1)))
 
 size-at-requires : tie.Need-size-at-requires Inv-loop μ-loop
 size-at-requires c κs = search needs
@@ -54,10 +53,10 @@ loop-again c =
     let s = c .before .before .before .before in
     let l = c .before .before .loop in
     let e : l .sum + c .size-at .result ≡ start (s .args .layout) (lines (s .args .program .now)) (l .i + 1) = start-next (s .args .layout) (s .args .program .now) (l .i) _ _ (c .before .loop-test .taken) (l .inv .2) (c .size-at .ensures) in
-    (omega arith, omega (arith, size-most (s .args .layout) (lineAt (s .args .program .now) (l .i)), c .size-at .ensures), e, simp length-set (l .inv .3), starts-more (s .args .layout) (l .starts) _ (l .i) _ (omega (arith, l .inv .3)) (l .inv .4) e)
+    (omega arith, omega (arith, size-most (s .args .layout) (lineAt (s .args .program .now) (l .i)), c .size-at .ensures), e, simp length-set (l .inv .3), up-to-next (s .args .layout) (l .starts) _ (l .i) _ (omega (arith, l .inv .3)) (l .inv .4) e)
 
 returns : tie.Need-returns Inv-loop μ-loop
-returns c = starts-all _ _ _ _ _ (omega arith) (c .before .loop .inv .4)
+returns c = starts-all _ _ (c .before .before .before .args .program .now) _ (c .before .before .before .pre .0) (omega arith) (c .before .loop .inv .4)
 
 pub fill-starts-spec : {M : Type 1} → statement M
 fill-starts-spec =
