@@ -11,6 +11,9 @@ use crate::random::Random;
 use std::collections::BTreeSet;
 use std::panic::{catch_unwind, AssertUnwindSafe};
 
+pub mod jumps;
+use jumps::Jumps;
+
 #[derive(Clone, Copy, Debug, PartialEq)]
 pub enum Entry {
     Read,
@@ -140,6 +143,8 @@ pub struct Counts {
     pub public_bits: u64,
     /// Walks of their expansions on the images of each layout: balanced, spent.
     pub image_walks: [[u64; 2]; 6],
+    /// Of programs full of jumps.
+    pub jumps: Jumps,
 }
 
 /// Which of the six a layout is.
@@ -233,7 +238,8 @@ impl Counts {
                 self.in_layout[at], self.outside[at], numbered(&self.before[at])
             );
         }
-        shown + &format!("\nimages refused that another layout takes: {}", self.other_images)
+        shown += &format!("\nimages refused that another layout takes: {}", self.other_images);
+        shown + &self.jumps.show()
     }
 }
 
@@ -389,7 +395,7 @@ impl Comparison<'_> {
         if case % 25 == 0 {
             return self.long(case / 25);
         }
-        match self.rng.below(14) {
+        match self.rng.below(15) {
             0..=3 => {
                 let lines = make::accepted_program(&mut self.rng);
                 self.whole_way(&lines)
@@ -398,6 +404,7 @@ impl Comparison<'_> {
             7..=8 => self.states(),
             9..=10 => self.stored_programs(),
             11 => self.first_step(),
+            12 => self.jumps(),
             _ => self.walks(),
         }
     }
@@ -444,8 +451,7 @@ impl Comparison<'_> {
     /// Expands a program, into about the room that these lines need; every other time outside the six layouts too.
     fn expand_about(&mut self, lines: &[Line], program: &[u16]) -> Result<(), String> {
         let layout = make::layout(&mut self.rng);
-        let length: usize = lines.iter().map(|line| make::part_length(layout, line)).sum();
-        let room = size(&mut self.rng, SIX * length);
+        let room = size(&mut self.rng, SIX * make::expansion_length(layout, lines));
         self.expand(layout, program, room)?;
         if self.rng.one_in(2) {
             let outside = make::layout_outside(&mut self.rng);

@@ -3,8 +3,8 @@
 use crate::answer::Layout;
 use crate::paper::walk::{MOST_VALUES, SET};
 use crate::paper::{
-    self, is_public, kind_of_place, table_page, Kind, Line, Opcode, Operand, Operand::*, MOST_LINES, OPCODES,
-    PAGE, PUBLIC_BIT, SIX, STATE,
+    self, is_public, kind_of_place, table_page, Kind, Line, Opcode, Operand, Operand::*, MOST_CHECKED,
+    MOST_LINES, OPCODES, PAGE, PUBLIC_BIT, SIX, STATE,
 };
 use crate::random::Random;
 
@@ -121,21 +121,31 @@ fn line(
 /// A line that the mark check takes in a program of `count` lines.
 pub fn accepted_line(rng: &mut Random, count: usize) -> Line {
     if rng.one_in(2) {
-        let opcode = OPCODES[rng.within(2, 6)].0;
-        let argument = |rng: &mut Random| match rng.below(6) {
-            0 => Literal(rng.bit()),
-            1 | 2 => public_place(rng),
-            _ => sensitive_place(rng),
-        };
-        line(rng, true, opcode, sensitive_place, argument, count)
+        marked_line(rng)
     } else {
         let opcode = OPCODES[rng.below(OPCODES.len())].0;
-        let argument = |rng: &mut Random| match rng.below(3) {
-            0 => literal(rng),
-            _ => public_place(rng),
-        };
-        line(rng, false, opcode, public_place, argument, count)
+        unmarked_line(rng, opcode, count)
     }
+}
+
+/// Such a line that is marked.
+fn marked_line(rng: &mut Random) -> Line {
+    let opcode = OPCODES[rng.within(2, 6)].0;
+    let argument = |rng: &mut Random| match rng.below(6) {
+        0 => Literal(rng.bit()),
+        1 | 2 => public_place(rng),
+        _ => sensitive_place(rng),
+    };
+    line(rng, true, opcode, sensitive_place, argument, 0)
+}
+
+/// Such a line that is not, with this opcode.
+fn unmarked_line(rng: &mut Random, opcode: Opcode, count: usize) -> Line {
+    let argument = |rng: &mut Random| match rng.below(3) {
+        0 => literal(rng),
+        _ => public_place(rng),
+    };
+    line(rng, false, opcode, public_place, argument, count)
 }
 
 /// Any correct line.
@@ -181,6 +191,11 @@ pub fn part_length(layout: Layout, line: &Line) -> usize {
         _ if layout.is_spaced() => 12 + 2 * public.count(),
         _ => 13 + 2 * public.count(),
     }
+}
+
+/// The length of the expansion, were all these lines accepted.
+pub fn expansion_length(layout: Layout, lines: &[Line]) -> usize {
+    lines.iter().map(|line| part_length(layout, line)).sum()
 }
 
 /// A correct line made so that one of the conditions 10 to 16 holds.
@@ -412,6 +427,72 @@ pub fn damage_text(rng: &mut Random, text: &mut Vec<u8>) {
                 text.splice(at..at, piece);
             }
         }
+    }
+}
+
+// ---------------------------------------------------------------- jumps
+
+/// Request 05: a program that the mark check takes, nearly every line a jump, the others marked.
+pub fn full_of_jumps(rng: &mut Random) -> Vec<Line> {
+    let count = match rng.below(8) {
+        0 => MOST_CHECKED,
+        1 => rng.within(41, MOST_CHECKED),
+        _ => length(rng),
+    };
+    // One line of so many is marked; of a million, none.
+    let between = rng.pick(&[3, 6, 12, 100, 1_000_000]);
+    let mut lines = vec![];
+    for target in targets(rng, count) {
+        lines.push(if rng.one_in(between) { marked_line(rng) } else { any_jump(rng, target) });
+    }
+    lines
+}
+
+/// A target for each of `count` lines: the same for all, one of its own for each, or any.
+fn targets(rng: &mut Random, count: usize) -> Vec<usize> {
+    let one = edgy(rng, 0, count);
+    match rng.below(4) {
+        0 => vec![one; count],
+        // As many lines on, and after the end from line 0 again.
+        1 => (0..count).map(|at| (at + one) % (count + 1)).collect(),
+        2 => (0..count).map(|at| count - at).collect(),
+        _ => (0..count).map(|_| edgy(rng, 0, count)).collect(),
+    }
+}
+
+/// A jump that the mark check takes, always or by a condition.
+fn any_jump(rng: &mut Random, target: usize) -> Line {
+    let opcode = rng.pick(&[Opcode::Jmp, Opcode::Beq, Opcode::Bne]);
+    Line { target: Some(target as u16), ..unmarked_line(rng, opcode, 0) }
+}
+
+/// Changes a program full of jumps so that it is mostly refused.
+pub fn damage_jumps(rng: &mut Random, lines: &mut Vec<Line>) {
+    let count = lines.len();
+    match rng.below(8) {
+        // One line too many, and targets that would be right or not.
+        0 | 1 => {
+            let target = MOST_CHECKED + rng.within(0, 2);
+            lines.resize_with(MOST_CHECKED + 1, || any_jump(rng, target));
+        }
+        // Targets that were right lie past the end of fewer lines.
+        2 => lines.truncate(rng.below(count + 1)),
+        3 if count > 0 => lines[rng.below(count)] = nearly_accepted_line(rng, count),
+        _ => {
+            for _ in 0..rng.within(1, 2) {
+                aim_past_end(rng, lines);
+            }
+        }
+    }
+}
+
+/// Another target for a jump, mostly one past the end.
+fn aim_past_end(rng: &mut Random, lines: &mut [Line]) {
+    let past = lines.len() as u16 + 1;
+    let mut jumps: Vec<&mut Line> = lines.iter_mut().filter(|line| line.target.is_some()).collect();
+    if let Some(last) = jumps.len().checked_sub(1) {
+        let far = rng.pick(&NEAR_LAST);
+        jumps[edgy(rng, 0, last)].target = Some(rng.pick(&[past, past, past, past + 1, far]));
     }
 }
 

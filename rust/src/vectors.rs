@@ -13,7 +13,7 @@ use std::panic::{catch_unwind, AssertUnwindSafe};
 use std::path::Path;
 
 /// How many requests of document 02 are in force: one more with each that lands.
-pub const IN_FORCE: u32 = 4;
+pub const IN_FORCE: u32 = 5;
 
 /// What the cases are called on.
 pub struct Tested<'a> {

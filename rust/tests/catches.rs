@@ -12,6 +12,8 @@ use dualrail::Answer::{self, *};
 use dualrail::{Dualrail, Layout};
 use std::ops::RangeInclusive;
 
+#[path = "catches/jumps.rs"]
+mod jumps;
 #[path = "catches/layouts.rs"]
 mod layouts;
 
@@ -21,6 +23,8 @@ type InLayout<T> = fn(Layout, &[T], &mut [T]) -> Answer;
 type Part = fn(Layout, &Line) -> Vec<Line>;
 /// A change of an image in a layout.
 type Change = fn(Layout, &mut [u8]);
+/// What a target becomes, by the starts of the lines and of the end, the jump's line, and the target.
+type Aim = fn(&[usize], usize, usize) -> usize;
 
 struct Variant {
     fault: &'static str,
@@ -34,6 +38,8 @@ struct Variant {
     judge: fn(&[u16], &[u8], u16) -> Answer,
     /// The parts that an expansion is made of, if they are not the right ones.
     part: Option<Part>,
+    /// The parts whose lengths the starts are added up of, and what targets then become, if not the right ones.
+    targets: Option<(Part, Aim)>,
     /// What is done to an image after it is made, and before the way back from it.
     made: Change,
     given: Change,
@@ -54,6 +60,7 @@ const RIGHT: Variant = Variant {
     run: |program, start, budget, state, trace| Paper.run(program, start, budget, state, trace),
     judge: |program, sets, budget| Paper.judge(program, sets, budget),
     part: None,
+    targets: None,
     made: |_, _| (),
     given: |_, _| (),
     taken: [|layout| layout; 3],
@@ -91,9 +98,15 @@ impl Dualrail for Variant {
         (self.check)(program)
     }
     fn expand(&self, layout: Layout, program: &[u16], out: &mut [u16]) -> Answer {
-        let entry = |layout, program: &[u16], out: &mut [u16]| match self.part {
-            Some(part) => expanded_by(layout, program, out, part),
-            None => (self.expand)(layout, program, out),
+        let entry = |layout, program: &[u16], out: &mut [u16]| {
+            let answer = match self.part {
+                Some(part) => expanded_by(layout, program, out, part),
+                None => (self.expand)(layout, program, out),
+            };
+            if let (Counted(_), Some(targets)) = (answer, self.targets) {
+                aim_anew(layout, program, out, targets);
+            }
+            answer
         };
         self.in_layout(0, entry, layout, (program, out))
     }
@@ -131,6 +144,25 @@ fn refused(number: u16) -> Answer {
 
 fn is_branch(line: &Line) -> bool {
     matches!(line.opcode, Opcode::Beq | Opcode::Bne)
+}
+
+/// The mark check with 16 for a target that is the line count.
+fn end_refused(program: &[u16]) -> Answer {
+    match Paper.check(program) {
+        Counted(count) => match program.chunks_exact(SIX).position(|line| line[5] as u32 == count + 1) {
+            Some(line) => Refused { number: 16, line: line as u32 },
+            None => Counted(count),
+        },
+        answer => answer,
+    }
+}
+
+/// The mark check with 9 for 1,024 lines too.
+fn longest_refused(program: &[u16]) -> Answer {
+    match Paper.check(program) {
+        Counted(count) if count as usize == MOST_CHECKED => refused(9),
+        answer => answer,
+    }
 }
 
 /// The text with one piece put for another.
@@ -186,6 +218,46 @@ fn changed_run(
     Paper.run(&program, start, budget, state, trace)
 }
 
+/// The starts, each line's part made by another rule.
+fn starts_by(layout: Layout, lines: &[Line], part: Part) -> Vec<usize> {
+    let mut starts = vec![0];
+    for line in lines {
+        starts.push(starts[starts.len() - 1] + part(layout, line).len());
+    }
+    starts
+}
+
+/// Puts other targets into a right expansion.
+fn aim_anew(layout: Layout, program: &[u16], out: &mut [u16], (part, aim): (Part, Aim)) {
+    let lines = stored_program(program).unwrap();
+    let wrong = starts_by(layout, &lines, part);
+    for ((at, line), start) in lines.iter().enumerate().zip(starts(layout, &lines)) {
+        if let Some(target) = line.target {
+            out[SIX * start + 5] = 1 + aim(&wrong, at, target as usize) as u16;
+        }
+    }
+}
+
+/// The start looked up as is right.
+fn looked_up(starts: &[usize], _: usize, target: usize) -> usize {
+    starts[target]
+}
+
+/// The part with public places loaded by one line.
+fn loaded_by_one(layout: Layout, line: &Line) -> Vec<Line> {
+    let mut lines = part(layout, line);
+    lines.retain(|new| !new.marked || !(masks(new) || decodes(new)));
+    lines
+}
+
+/// The part with r1 loaded by one line, from a public place too.
+fn first_loaded_by_one(layout: Layout, line: &Line) -> Vec<Line> {
+    let first = Some(Operand::Register(1));
+    let mut lines = part(layout, line);
+    lines.retain(|new| new.destination != first || !new.marked || !(masks(new) || decodes(new)));
+    lines
+}
+
 /// Expands, each line's part made by another rule.
 fn expanded_by(layout: Layout, program: &[u16], out: &mut [u16], part: Part) -> Answer {
     let (true, Counted(_), Ok(lines)) =
@@ -193,10 +265,7 @@ fn expanded_by(layout: Layout, program: &[u16], out: &mut [u16], part: Part) -> 
     else {
         return Paper.expand(layout, program, out);
     };
-    let mut starts = vec![0];
-    for line in &lines {
-        starts.push(starts[starts.len() - 1] + part(layout, line).len());
-    }
+    let starts = starts_by(layout, &lines, part);
     let mut numbers = vec![];
     for mut line in lines.iter().flat_map(|line| part(layout, line)) {
         line.target = line.target.map(|target| starts[target as usize] as u16);
@@ -622,27 +691,8 @@ fn variants() -> Vec<Variant> {
             },
             ..RIGHT
         },
-        Variant {
-            fault: "16 at the line count",
-            check: |program| match Paper.check(program) {
-                Counted(count) => {
-                    match program.chunks_exact(SIX).position(|line| line[5] as u32 == count + 1) {
-                        Some(line) => Refused { number: 16, line: line as u32 },
-                        None => Counted(count),
-                    }
-                }
-                answer => answer,
-            },
-            ..RIGHT
-        },
-        Variant {
-            fault: "9 from 1,024 lines on",
-            check: |program| match Paper.check(program) {
-                Counted(count) if count as usize == MOST_CHECKED => refused(9),
-                answer => answer,
-            },
-            ..RIGHT
-        },
+        Variant { fault: "16 at the line count", check: end_refused, ..RIGHT },
+        Variant { fault: "9 from 1,024 lines on", check: longest_refused, ..RIGHT },
         Variant {
             fault: "7 at line 0",
             check: |program| match Paper.check(program) {
@@ -759,15 +809,7 @@ fn variants() -> Vec<Variant> {
             },
             ..RIGHT
         },
-        Variant {
-            fault: "a public place loaded by one line",
-            part: Some(|layout, line| {
-                let mut lines = part(layout, line);
-                lines.retain(|new| !new.marked || !(masks(new) || decodes(new)));
-                lines
-            }),
-            ..RIGHT
-        },
+        Variant { fault: "a public place loaded by one line", part: Some(loaded_by_one), ..RIGHT },
         Variant {
             fault: "a public place loaded without and #1",
             part: Some(|layout, line| {
@@ -779,12 +821,7 @@ fn variants() -> Vec<Variant> {
         },
         Variant {
             fault: "the second argument alone loaded by three lines",
-            part: Some(|layout, line| {
-                let first = Some(Operand::Register(1));
-                let mut lines = part(layout, line);
-                lines.retain(|new| new.destination != first || !new.marked || !(masks(new) || decodes(new)));
-                lines
-            }),
+            part: Some(first_loaded_by_one),
             ..RIGHT
         },
         Variant {
@@ -1618,6 +1655,7 @@ fn variants() -> Vec<Variant> {
 fn no_fault_but_the_named_ones() {
     let right = Variant {
         part: Some(part),
+        targets: Some((part, looked_up)),
         made: layouts::right_entries,
         run: |program, start, budget, state, trace| {
             run_taking((program, start, budget), state, trace, |line, state| {
@@ -1640,7 +1678,8 @@ fn no_fault_but_the_named_ones() {
 fn every_fault_is_found() {
     assert!(compare(&RIGHT, 2, 1, 200).is_ok());
     let named = |variant: Variant| (variant.fault.to_string(), variant);
-    for (fault, variant) in variants().into_iter().map(named).chain(layouts::variants()) {
+    let whole = variants().into_iter().chain(jumps::variants()).map(named).chain(layouts::variants());
+    for (fault, variant) in whole {
         match compare(&variant, 2, 1, 10_000) {
             Ok(_) => panic!("not found: {fault}"),
             Err(report) => println!("{fault:60} {}", report.lines().next().unwrap()),

@@ -1,10 +1,12 @@
 //! The library against the paper, on many random calls.
 
+use dualrail::compare::jumps::Jumps;
 use dualrail::compare::{compare, Counts, WITH_LAYOUT};
+use dualrail::paper::Opcode;
 use dualrail::plain::Plain;
 use dualrail::Library;
 
-const CASES: u64 = 84_000;
+const CASES: u64 = 90_000;
 
 fn from_environment(name: &str) -> Option<u64> {
     std::env::var(name).ok().map(|value| value.parse().expect("a number"))
@@ -40,6 +42,7 @@ fn library_against_paper() {
         counts.crowded >= 100 && counts.leaks_shown >= 500 && counts.exact.iter().all(|&count| count >= 300)
     );
     layouts_are_met(&counts);
+    jumps_are_met(&counts.jumps);
 }
 
 /// Request 04: each of the six layouts often, in whole runs and walks too, and 23 before every other refusal.
@@ -61,6 +64,35 @@ fn layouts_are_met(counts: &Counts) {
             assert!(count >= 100, "{entry:?}: 23 came before {other} {count} times only");
         }
     }
+}
+
+/// Request 05: in each layout jumps of all kinds, programs of 1,024 lines too; and what is refused of such.
+fn jumps_are_met(jumps: &Jumps) {
+    let in_each = [
+        ("programs", jumps.programs, 2_000),
+        ("programs of 1,024 lines", jumps.longest, 200),
+        ("programs with each target its own", jumps.own_targets, 800),
+        ("jumps to line 0", jumps.to_first, 20_000),
+        ("jumps to the end", jumps.to_end, 20_000),
+        ("jumps back across marked lines", jumps.back, 50_000),
+        ("jumps on across marked lines", jumps.on, 50_000),
+    ];
+    for (name, counts, least) in in_each {
+        assert!(counts.iter().all(|&count| count >= least), "{name}: {counts:?} only");
+    }
+    for opcode in [Opcode::Jmp, Opcode::Beq, Opcode::Bne] {
+        let count = jumps.opcodes[opcode as usize];
+        assert!(count >= 300_000, "{opcode:?} came {count} times only");
+    }
+    for length in [4, 5, 6, 7, 12, 13, 14, 15, 16, 17] {
+        let count = jumps.parts[length];
+        assert!(count >= 5_000, "a part of {length} lines came {count} times only");
+    }
+    for number in [9, 16, 17, 23] {
+        let count = jumps.refusals[number];
+        assert!(count >= 2_000, "programs full of jumps were refused with {number} {count} times only");
+    }
+    assert!(jumps.past_end >= 2_000 && jumps.line_short >= 2_000);
 }
 
 /// The measure of the benchmark does the same job.

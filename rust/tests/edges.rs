@@ -1,4 +1,4 @@
-//! The edges and examples that the papers print, and a few for the walk and for the layouts.
+//! The edges and examples that the papers print, and a few for the walk, for the layouts and for jumps.
 
 use dualrail::paper::walk::SET;
 use dualrail::paper::{Paper, ROW, SIX, STATE};
@@ -658,5 +658,106 @@ fn layouts_outside() {
             }
         }
         assert!(state == [7; STATE] && numbers == [7; SIX]);
+    });
+}
+
+/// The expansion as stored lines, of which there must be so many; room for a line less is refused.
+fn expanded_to(on: &dyn Dualrail, layout: Layout, program: &[u16], count: usize) -> Vec<u16> {
+    let mut out = vec![9; SIX * count];
+    for less in [SIX, 1] {
+        assert_eq!(on.expand(layout, program, &mut out[less..]), refused(17, 0), "{layout:?}");
+    }
+    assert!(out.iter().all(|&number| number == 9), "{layout:?}");
+    assert_eq!(on.expand(layout, program, &mut out), Counted(count as u32), "{layout:?}");
+    out
+}
+
+/// A jump to the target that is made of each line's number.
+fn jumps(on: &dyn Dualrail, count: usize, target: fn(usize) -> usize) -> Vec<u16> {
+    let text: String = (0..count).map(|line| format!("u,jmp,,,,{}\n", target(line))).collect();
+    stored(on, &text)
+}
+
+/// Request 05: jumps alone become themselves, each line's start being its number and the end's the line count.
+#[test]
+fn jumps_alone() {
+    each(|on| {
+        // All to the end, all to line 0; each to itself, to the next line, to one as far from the end as it from 0.
+        let targets: [fn(usize) -> usize; 5] =
+            [|_| 1_024, |_| 0, |line| line, |line| line + 1, |line| 1_024 - line];
+        for target in targets {
+            let program = jumps(on, 1_024, target);
+            for layout in Layout::ALL {
+                assert!(expanded_to(on, layout, &program, 1_024) == program, "{layout:?}");
+            }
+        }
+        let mut out = [9; SIX * 1_025];
+        let mut answer = |program: Vec<u16>| on.expand(Layout::LOWEST, &program, &mut out);
+        assert_eq!(answer(jumps(on, 1_024, |_| 1_025)), refused(16, 0));
+        assert_eq!(answer(jumps(on, 1_024, |line| line + 2)), refused(16, 1_023));
+        assert_eq!(answer(jumps(on, 1_025, |_| 1_025)), refused(9, 0));
+        assert_eq!(answer(jumps(on, 1_025, |_| 1_026)), refused(9, 0));
+        assert_eq!(out, [9; SIX * 1_025]);
+    });
+}
+
+/// The unmarked lines of the expansion must be these, each after its number.
+fn unmarked(on: &dyn Dualrail, layout: Layout, text: &str, wanted: &[&str]) {
+    let expansion = expanded(on, layout, text);
+    let lines = expansion.lines().enumerate().filter(|(_, line)| line.starts_with('u'));
+    let numbered: Vec<String> = lines.map(|(at, line)| format!("{at} {line}")).collect();
+    assert_eq!(numbered, wanted, "{layout:?}");
+}
+
+/// Request 05: jumps back and on across marked lines, whose parts have 15, 4, 7 and 17 lines for neighbours; spaced,
+/// 14, 4, 7 and 16.
+#[test]
+fn jumps_around_marked_lines() {
+    each(|on| {
+        let text = "u,jmp,,,,5\ns,xor,r16,r17,r4,\nu,beq,,r4,#0,1\ns,mov,r16,@128,,\nu,bne,,r4,r5,2\n\
+                    s,not,r18,@5,,\nu,jmp,,,,8\ns,and,r16,r4,r5,\n";
+        // The lines start at 0, 1, 16, 17, 21, 22, 29 and 30, and the end is 47.
+        let neighbours = ["0 u,jmp,,,,22", "16 u,beq,,r4,#0,1", "21 u,bne,,r4,r5,16", "29 u,jmp,,,,47"];
+        unmarked(on, NEIGHBOURS_1, text, &neighbours);
+        // At 0, 1, 15, 16, 20, 21, 28 and 29, and the end is 45.
+        let spaced = ["0 u,jmp,,,,21", "15 u,beq,,r4,#0,1", "20 u,bne,,r4,r5,15", "28 u,jmp,,,,45"];
+        unmarked(on, SPACED_1, text, &spaced);
+    });
+}
+
+/// Request 05: the end starts where the last part ends, be the marked lines before the jump or behind it.
+#[test]
+fn jumps_to_the_end() {
+    each(|on| {
+        // 17 lines or, spaced, 16; then 6.
+        let text = "s,orr,r16,r4,@5,\ns,mov,r17,r4,,\nu,jmp,,,,3\n";
+        unmarked(on, NEIGHBOURS_2, text, &["23 u,jmp,,,,24"]);
+        unmarked(on, SPACED_0, text, &["22 u,jmp,,,,23"]);
+        unmarked(on, SPACED_2, "u,jmp,,,,2\ns,not,r16,r17,,\n", &["0 u,jmp,,,,6"]);
+        let expansion = expanded_to(on, NEIGHBOURS_2, &stored(on, text), 24);
+        let answer = on.run(&expansion, 23, 9, &mut [0; STATE], &mut [0; 9 * ROW]);
+        assert_eq!(answer, Halted { counter: 24, steps: 1 });
+    });
+}
+
+/// Request 05: 1,024 lines, of every four the first marked and with two public places, the others jumps, each
+/// with its own target: line 1 to line 1,023, line 1,023 to line 1.
+#[test]
+fn jumps_with_their_own_targets() {
+    each(|on| {
+        let mut program = jumps(on, 1_024, |line| 1_024 - line);
+        for four in program.chunks_exact_mut(4 * SIX) {
+            four[..SIX].copy_from_slice(&stored(on, "s,xor,r16,r4,r5,\n"));
+        }
+        for (layout, length) in [(NEIGHBOURS_2, 17), (SPACED_0, 16)] {
+            // Four lines become three more than the marked one does.
+            let start =
+                |line: usize| (length + 3) * (line / 4) + [0, length, length + 1, length + 2][line % 4];
+            let expansion = expanded_to(on, layout, &program, 256 * (length + 3));
+            for line in (0..1_024).filter(|line| line % 4 > 0) {
+                let jump = [0, 1, 0, 0, 0, 1 + start(1_024 - line) as u16];
+                assert_eq!(expansion[SIX * start(line)..][..SIX], jump, "{layout:?}, line {line}");
+            }
+        }
     });
 }

@@ -143,9 +143,20 @@ fn walks(expansion: &[u16]) -> f64 {
     measure("walk, one step of 65,536 argument choices", 1.2, &|on, _| on.judge(&worst, &sets, 1))
 }
 
-/// Gives two ratios of the library's medians: jumps to the last line to jumps to the first, and
-/// 1,024 lines to 4 times 256.
-fn expansions() -> [f64; 2] {
+/// Request 05: 1,024 lines, every eighth of them marked, the others jumps, each with its own target.
+fn mixed() -> Vec<u16> {
+    let marked = ["s,xor,r16,@5,!r4+3,\n", "s,not,r17,r18,,\n", "s,mov,%r5+1,r4,,\n", "s,and,@200,#1,r18,\n"];
+    let jump = ["u,jmp,,,,", "u,beq,,r4,#0,", "u,bne,,!r5+0,r6,"];
+    let line = |at: usize| match at % 8 {
+        0 => marked[at / 8 % 4].to_string(),
+        _ => format!("{}{}\n", jump[at % 3], 1_024 - at),
+    };
+    stored(&(0..1_024).map(line).collect::<String>())
+}
+
+/// Gives three ratios of the library's medians: jumps to the end to jumps to line 0, and 1,024 to 4 times 256 of
+/// jumps and of marked lines.
+fn expansions() -> [f64; 3] {
     let few = [
         "s,xor,r16,%r4+3,r17,\n",
         "s,and,@200,#1,r18,\n",
@@ -153,7 +164,7 @@ fn expansions() -> [f64; 2] {
         "s,xor,r31,r16,r16,\n",
     ];
     let marked = |count: usize| stored(&few.concat().repeat(count / 4));
-    let jumps = |target: usize| stored(&format!("u,jmp,,,,{target}\n").repeat(1_024));
+    let jumps = |count: usize, target: usize| stored(&format!("u,jmp,,,,{target}\n").repeat(count));
     let in_layout = |layout: Layout, name: &str, program: Vec<u16>| {
         measure(name, 1.2, &|on, memory| on.expand(layout, &program, &mut memory.numbers))
     };
@@ -164,9 +175,11 @@ fn expansions() -> [f64; 2] {
         in_layout(*layout, &format!("expand, 1,024 marked lines, {}", in_words(*layout)), marked(1_024));
     }
     let short = expand("expand, 256 marked lines", marked(256));
-    let jumps_0 = expand("expand, 1,024 jumps to line 0", jumps(0));
-    let jumps_end = expand("expand, 1,024 jumps to line 1,024", jumps(1_024));
-    [jumps_end / jumps_0, long / (4.0 * short)]
+    let jumps_0 = expand("expand, 1,024 jumps to line 0", jumps(1_024, 0));
+    let jumps_end = expand("expand, 1,024 jumps to line 1,024", jumps(1_024, 1_024));
+    let few_jumps = expand("expand, 256 jumps to line 256", jumps(256, 256));
+    expand("expand, 896 jumps between 128 marked lines", mixed());
+    [jumps_end / jumps_0, jumps_end / (4.0 * few_jumps), long / (4.0 * short)]
 }
 
 fn in_words(layout: Layout) -> String {
@@ -242,7 +255,7 @@ fn main() {
     let (source, expansion) = simon::programs(&Library, Layout::LOWEST);
     runs(&source, &expansion);
     let step = walks(&expansion);
-    let [jumps, lines] = expansions();
+    let [jumps, more_jumps, lines] = expansions();
     images();
     let [read, write] = texts();
 
@@ -250,6 +263,7 @@ fn main() {
     println!("\nThe library alone, ratios of its medians:");
     let alone = |name: &str, ratio: f64, goal: f64| println!("{name:66} {}", judged(ratio, goal));
     alone("expand, 1,024 jumps to line 1,024 against to line 0", jumps, 1.1);
+    alone("expand, 1,024 jumps against 4 times 256 jumps", more_jumps, 1.2);
     alone("expand, 1,024 lines against 4 times 256 lines", lines, 1.2);
     alone("read, 1,024 lines against 4 times 256 lines", read, 1.2);
     alone("write, 1,024 lines against 4 times 256 lines", write, 1.2);

@@ -269,22 +269,12 @@ fn made_anyway<T>(entry: InLayout<T>, layout: Layout, input: &[T], lent: &mut [T
     answer
 }
 
-/// An expansion with the targets of the one for neighbours.
-fn with_lowest_targets(layout: Layout, program: &[u16], out: &mut [u16]) -> Answer {
-    let answer = Paper.expand(layout, program, out);
-    if let (Counted(_), Ok(lines)) = (answer, stored_program(program)) {
-        let wrong = starts(Layout::LOWEST, &lines);
-        for (line, start) in lines.iter().zip(starts(layout, &lines)) {
-            if let Some(target) = line.target {
-                out[SIX * start + 5] = 1 + wrong[target as usize] as u16;
-            }
-        }
-    }
-    answer
-}
-
 const OTHERS: [Variant; 9] = [
-    Variant { fault: "targets as if the spaced macro had 13 lines", expand: with_lowest_targets, ..RIGHT },
+    Variant {
+        fault: "targets as if the spaced macro had 13 lines",
+        targets: Some((|_, line| part(Layout::LOWEST, line), looked_up)),
+        ..RIGHT
+    },
     Variant {
         fault: "17 as if the spaced macro had 13 lines",
         expand: |layout, program, out| match Paper.expand(Layout::LOWEST, program, &mut out.to_vec()) {
