@@ -1,9 +1,9 @@
--- Which fields an opcode fills, as four bits: one test for each way of filling, over all opcodes.
+-- Which fields an opcode fills: one test for each way of filling, over all opcodes.
 -- Assumes nothing.
 use mathlib.Core.Path.{_≡_}
 use mathlib.Core.Bool.{Bool, true, false, Bool·beq}
-use Prim.Native.Nat.{ℕ, _+_, _≤_}
-use lib.Dec.{T, eqb}
+use Prim.Native.Nat.{ℕ, _≤_}
+use lib.Dec.{T}
 use borrow.Author.Tests.{ne-eqb, le-ltb}
 use native.Mathlib.Omega.{arith}
 use Rattle.model.specs.Lines.{filled, fills}
@@ -11,16 +11,13 @@ use Rattle.model.specs.Stored.{opcodes, opcodeOf, sameFilled}
 use Rattle.model.proofs.TestLaws.{below, allBelow, all-below}
 use Rattle.model.proofs.Forms.{opcode-past}
 use Rattle.model.proofs.StoredLaws.{beq-same}
-use Rattle.coding.specs.Fields.{bitOf, shapeOf}
-
-abbrev bits : Bool → Bool → Bool → Bool → ℕ
-bits d a b t = bitOf 8 d + bitOf 4 a + bitOf 2 b + bitOf 1 t
+use Rattle.coding.specs.Fields.{shaped}
 
 abbrev right : Bool → Bool → Bool → Bool → ℕ → Bool
-right d a b t o = Bool·beq (eqb (bits d a b t) (shapeOf o)) (sameFilled (fills (opcodeOf o)) (filled d a b t))
+right d a b t o = Bool·beq (shaped o d a b t) (sameFilled (fills (opcodeOf o)) (filled d a b t))
 
 all-shapes : (d a b t : Bool) → T (allBelow (right d a b t) opcodes)
-unfolding allBelow bitOf shapeOf fills
+unfolding allBelow shaped fills
 all-shapes true true true true = tt
 all-shapes true true true false = tt
 all-shapes true true false true = tt
@@ -39,12 +36,12 @@ all-shapes false false false true = tt
 all-shapes false false false false = tt
 
 -- past the opcodes a number fills what the first of them fills
-shape-past : (o : ℕ) → opcodes ≤ o → shapeOf o ≡ shapeOf 0
-unfolding shapeOf
-shape-past o h =
-    rw (ne-eqb o 0 (λ e. omega arith), ne-eqb o 1 (λ e. omega arith), le-ltb o 4 (omega arith), le-ltb o 11 (omega arith), le-ltb o 13 h)
+shaped-past : (o : ℕ) (d a b t : Bool) → opcodes ≤ o → shaped o d a b t ≡ shaped 0 d a b t
+unfolding shaped
+shaped-past o d a b t h =
+    rw (ne-eqb o 0 (λ e. omega arith), ne-eqb o 1 (λ e. omega arith), le-ltb o 4 (omega arith), le-ltb o 11 (omega arith), le-ltb o opcodes h)
 
-pub shape-tests : (o : ℕ) (d a b t : Bool) → eqb (bits d a b t) (shapeOf o) ≡ sameFilled (fills (opcodeOf o)) (filled d a b t)
+pub shape-tests : (o : ℕ) (d a b t : Bool) → shaped o d a b t ≡ sameFilled (fills (opcodeOf o)) (filled d a b t)
 shape-tests o d a b t =
     below o opcodes (λ h. beq-same _ _ (all-below (right d a b t) opcodes o (all-shapes d a b t) h))
-    (λ h. rw (shape-past o h, opcode-past o h) (beq-same _ _ (all-below (right d a b t) opcodes 0 (all-shapes d a b t) (omega arith))))
+    (λ h. rw (shaped-past o d a b t h, opcode-past o h) (beq-same _ _ (all-below (right d a b t) opcodes 0 (all-shapes d a b t) (omega arith))))

@@ -15,7 +15,7 @@ ghost use Rattle.model.specs.Lines.{filled, fills, isLiteral};
 ghost use Rattle.model.specs.Stored.{markOf, opcodeOf, operandOf, targetOf, lineOf, lineAt};
 ghost use Rattle.model.specs.Stored.{markCode, opcodeCode, operandCode, targetCode, codes};
 ghost use Rattle.model.specs.Stored.{sameFilled, parsedNumbers, fault, faultAt, programCheck};
-ghost use Rattle.coding.specs.Fields.{numbersAt, bitOf, shapeOf, inRange};
+ghost use Rattle.coding.specs.Fields.{numbersAt, inRange};
 use model::Answer;
 use model::Kind;
 use model::LINE_WIDTH;
@@ -278,37 +278,26 @@ pub fn encode(line: Line) -> [u16; LINE_WIDTH]
     ]
 }
 
-// w where a field is filled.
-fn bit(w: u8, filled: bool) -> u8
-    ensures { λ r. ⌜ (r ≡ bitOf w filled) × (r ≤ w) ⌝ }
-{
-    if filled { w } else { 0 }
-}
-
-// Which of destination, first, second and target the opcode of number o fills, as four bits.
-fn shape(o: u16) -> u8
-    ensures { λ r. ⌜ r ≡ shapeOf o ⌝ }
-{
-    if o == 0 {
-        return 0;
-    }
-    if o == 1 {
-        return 1;
-    }
-    if o < 4 {
-        return 12;
-    }
-    if o < 11 {
-        return 14;
-    }
-    if o < OPCODES { 7 } else { 0 }
-}
-
-// Whether the fields after the opcode of number o are filled just where it fills them.
+// Whether the fields after the opcode of number o, destination, first, second and target, are filled just where it fills them.
 pub fn is_shaped(o: u16, d: bool, a: bool, b: bool, t: bool) -> bool
     ensures { λ r. ⌜ r ≡ sameFilled (fills (opcodeOf o)) (filled d a b t) ⌝ }
 {
-    bit(8, d) + bit(4, a) + bit(2, b) + bit(1, t) == shape(o)
+    if o == 0 {
+        return !(d | a | b | t);
+    }
+    if o == 1 {
+        return !(d | a | b) & t;
+    }
+    if o < 4 {
+        return d & a & !(b | t);
+    }
+    if o < 11 {
+        return d & a & b & !t;
+    }
+    if o < OPCODES {
+        return !d & a & b & t;
+    }
+    !(d | a | b | t)
 }
 
 // Whether an operand's number is a literal's.

@@ -1,8 +1,9 @@
 // The mark check of document 01: conditions 10 to 16 of a line, of which 13 no longer occurs, and the check of a stored program (9 to 16).
 // The tests are made on the stored numbers themselves, by the ranges that decode them; no line is made.
 ghost use mathlib.Core.Path.{_≡_};
-ghost use mathlib.Core.Bool.{true, false};
+ghost use mathlib.Core.Bool.{true, false, _&&_};
 ghost use Prim.Native.Nat.{ℕ};
+ghost use lib.Dec.{eqb};
 ghost use Rattle.model.specs.Answers.{report};
 ghost use Rattle.model.specs.Places.{kindOf, isPublic};
 ghost use Rattle.model.specs.Stored.{markOf, opcodeOf, operandOf, targetOf, lineOf, lineAt, lines};
@@ -248,10 +249,27 @@ fn usual_fault(count: u16, m: u16, o: u16, d: u16, a: u16, b: u16, t: u16) -> u8
     0
 }
 
+// Whether a line is unmarked and has no operand, as nop and jmp. Told at once, that spares a listing full of jumps every other test but one.
+fn is_bare(m: u16, d: u16, a: u16, b: u16) -> bool
+    ensures { λ r. ⌜ r ≡ ((eqb m 0 && eqb d 0) && eqb a 0) && eqb b 0 ⌝ }
+{
+    (m == 0) & (d == 0) & (a == 0) & (b == 0)
+}
+
+// The lowest of the conditions that such a line breaks; 0 for none.
+fn bare_fault(count: u16, t: u16) -> u8
+    ensures { λ r. ⌜ ((o : ℕ) → r ≡ markFault count (lineOf 0 o 0 0 0 t)) ⌝ }
+{
+    if holds16(count, t) { 16 } else { 0 }
+}
+
 // The lowest of the conditions 10 to 16 that six numbers break in a program of so many lines; 0 for none.
 fn mark_fault(count: u16, m: u16, o: u16, d: u16, a: u16, b: u16, t: u16) -> u8
     ensures { λ r. ⌜ r ≡ markFault count (lineOf m o d a b t) ⌝ }
 {
+    if is_bare(m, d, a, b) {
+        return bare_fault(count, t);
+    }
     if are_usual(d, a, b) {
         return usual_fault(count, m, o, d, a, b, t);
     }

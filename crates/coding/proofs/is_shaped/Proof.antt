@@ -1,46 +1,46 @@
--- `coding::is_shaped` meets its contract: the four bits are compared with the opcode's. Assumes nothing.
+-- `coding::is_shaped` meets its contract, by its tests. Assumes nothing.
+use mathlib.Core.Path.{_≡_}
+use borrow.Author.Tests.{eq-eqb, ne-eqb, lt-ltb, le-ltb}
+use Rattle.coding.specs.Fields.{shaped}
 use Rattle.coding.proofs.Shapes.{shape-tests}
-use borrow.Author.Needs.{needs}
 use Rattle.coding.proofs.is_shaped.Statement.{statement}
 use Rattle.coding.proofs.is_shaped.Tie as tie
 
-bit-requires : tie.Need-bit-requires
-bit-requires c κs = search needs
-
-bit-requires-2 : tie.Need-bit-requires-2
-bit-requires-2 c κs = search needs
-
-add-result : tie.Need-add-result
-add-result c = search needs
-
-bit-requires-3 : tie.Need-bit-requires-3
-bit-requires-3 c κs = search needs
-
-add-result-2 : tie.Need-add-result-2
-add-result-2 c = search needs
-
-bit-requires-4 : tie.Need-bit-requires-4
-bit-requires-4 c κs = search needs
-
-add-result-3 : tie.Need-add-result-3
-add-result-3 c = search needs
-
-shape-requires : tie.Need-shape-requires
-shape-requires c κs = search needs
-
 returns : tie.Need-returns
-returns c = rw (c .before .before .before .before .bit .ensures .0, c .before .before .before .bit2 .ensures .0, c .before .before .bit3 .ensures .0, c .before .bit4 .ensures .0, c .shape .ensures) (let x = c .before .before .before .before .before .args in shape-tests (x .o) (x .d) (x .a) (x .b) (x .t))
+unfolding shaped
+returns c =
+    let x = c .before .args in
+    rw (← shape-tests (x .o) (x .d) (x .a) (x .b) (x .t), eq-eqb _ _ (c .if1 .taken))
+
+returns-2 : tie.Need-returns-2
+unfolding shaped
+returns-2 c =
+    let x = c .before .before .args in
+    rw (← shape-tests (x .o) (x .d) (x .a) (x .b) (x .t), ne-eqb _ _ (c .before .if1 .left), eq-eqb _ _ (c .if2 .taken))
+
+returns-3 : tie.Need-returns-3
+unfolding shaped
+returns-3 c =
+    let x = c .before .before .before .args in
+    rw (← shape-tests (x .o) (x .d) (x .a) (x .b) (x .t), ne-eqb _ _ (c .before .before .if1 .left), ne-eqb _ _ (c .before .if2 .left), lt-ltb _ _ (c .if3 .taken))
+
+returns-4 : tie.Need-returns-4
+unfolding shaped
+returns-4 c =
+    let x = c .before .before .before .before .args in
+    rw (← shape-tests (x .o) (x .d) (x .a) (x .b) (x .t), ne-eqb _ _ (c .before .before .before .if1 .left), ne-eqb _ _ (c .before .before .if2 .left), le-ltb _ _ (c .before .if3 .left), lt-ltb _ _ (c .if4 .taken))
+
+returns-5 : tie.Need-returns-5
+unfolding shaped
+returns-5 c =
+    let x = c .before .before .before .before .before .args in
+    rw (← shape-tests (x .o) (x .d) (x .a) (x .b) (x .t), ne-eqb _ _ (c .before .before .before .before .if1 .left), ne-eqb _ _ (c .before .before .before .if2 .left), le-ltb _ _ (c .before .before .if3 .left), le-ltb _ _ (c .before .if4 .left), lt-ltb _ _ (c .if5 .taken))
+
+returns-6 : tie.Need-returns-6
+unfolding shaped
+returns-6 c =
+    let x = c .before .before .before .before .before .args in
+    rw (← shape-tests (x .o) (x .d) (x .a) (x .b) (x .t), ne-eqb _ _ (c .before .before .before .before .if1 .left), ne-eqb _ _ (c .before .before .before .if2 .left), le-ltb _ _ (c .before .before .if3 .left), le-ltb _ _ (c .before .if4 .left), le-ltb _ _ (c .if5 .left))
 
 pub is-shaped-spec : {M : Type 1} → statement M
-is-shaped-spec =
-    tie.close
-    (tie.spec
-    bit-requires
-    bit-requires-2
-    add-result
-    bit-requires-3
-    add-result-2
-    bit-requires-4
-    add-result-3
-    shape-requires
-    returns)
+is-shaped-spec = tie.close (tie.spec returns returns-2 returns-3 returns-4 returns-5 returns-6)
