@@ -15,12 +15,12 @@ use Rattle.model.specs.Stored.{lines, programCheck}
 use Rattle.model.specs.Run.{run, answer, runOutcome}
 use Rattle.model.proofs.OutcomeLaws.{never-done, run-outcome}
 use Rattle.model.proofs.CheckAnswers.{CountOrRefusal, counts, refuses, program-answers, expand-answers, NoCount, Refusal, no-count-refuses}
-use Rattle.walk.specs.declared.Verdict.{Verdict}
-use Rattle.walk.specs.Gathering.{refusalOf}
-use Rattle.walk.specs.Walk.{told, verdictReport}
-use Rattle.walk.specs.Claims.{Clear, Images}
-use Rattle.walk.proofs.Reports.{sound}
-use Rattle.walk.proofs.Expansions.{no-false-alarm}
+use Rattle.sets.specs.declared.Verdict.{Verdict}
+use Rattle.walk.specs.Moves.{refusalOf}
+use Rattle.sets.specs.Walk.{told, verdictReport}
+use Rattle.sets.specs.Claims.{Clear, Images}
+use Rattle.sets.proofs.Reports.{sound}
+use Rattle.sets.proofs.Expansions.{no-false-alarm}
 use Rattle.balance.specs.VerdictClaims.{DrawnTwins, AsJudged, SoundCalls, ClearExpansion, verdictOn}
 use Rattle.balance.specs.EntryClaims.{Expanded, listing}
 use Rattle.balance.proofs.EntryRuns.{listed, ending, answer-is, leaves-is}

@@ -9,8 +9,8 @@ use Rattle.model.specs.Limits.{rowWidth}
 use Rattle.model.specs.Answers.{Report, done, refused, Outcome}
 use Rattle.model.specs.Places.{State}
 use Rattle.model.specs.Run.{runOutcome}
-use Rattle.walk.specs.Walk.{setsOf, verdictReport}
-use Rattle.walk.specs.Claims.{Drawn, Clear, Images}
+use Rattle.sets.specs.Walk.{setsOf, verdictReport}
+use Rattle.sets.specs.Claims.{Drawn, Clear, Images}
 use Rattle.balance.specs.EntryClaims.{Expanded, listing, SameCalls}
 
 -- two states drawn from the sets, and room for the rows of b steps from each

@@ -7,12 +7,12 @@ ghost use Rattle.model.specs.Layouts.{layoutOf};
 ghost use Rattle.model.specs.Answers.{report, counted, outcome};
 ghost use Rattle.model.specs.Expansion.{expandOutcome};
 ghost use Rattle.model.specs.Run.{runOutcome};
-ghost use Rattle.walk.specs.Walk.{told, verdictReport};
-ghost use Rattle.walk.specs.Claims.{Clear, Images};
+ghost use Rattle.sets.specs.Walk.{told, verdictReport};
+ghost use Rattle.sets.specs.Claims.{Clear, Images};
 ghost use Rattle.balance.specs.VerdictClaims.{DrawnTwins, AsJudged, verdictOn};
 use model::Answer;
 use model::LINE_WIDTH;
-use walk::Verdict;
+use sets::Verdict;
 
 pub struct JudgedRuns {
     pub verdict: Verdict,

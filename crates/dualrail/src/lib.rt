@@ -8,10 +8,10 @@ ghost use Rattle.model.specs.Marks.{markCheck};
 ghost use Rattle.model.specs.Expansion.{expandOutcome};
 ghost use Rattle.model.specs.Images.{toImageOutcome, fromImageOutcome};
 ghost use Rattle.model.specs.Run.{runOutcome};
-ghost use Rattle.walk.specs.Walk.{told, verdictReport};
+ghost use Rattle.sets.specs.Walk.{told, verdictReport};
 ghost use Rattle.dualrail.specs.Packing.{packed, packedRun};
 use model::Answer;
-use walk::Verdict;
+use sets::Verdict;
 
 // The entry points below but `run` give no ending, and `run` gives no count: these arms are what the definition says of them.
 fn pack(answer: Answer) -> u64

@@ -4,8 +4,8 @@ ghost use Prim.Native.Nat.{_-_, _≤_};
 ghost use lib.ListN.{length};
 use model::Answer;
 use model::STATE_SIZE;
-use walk::SETS_SIZE;
-use walk::Verdict;
+use sets::SETS_SIZE;
+use sets::Verdict;
 
 // The fields of a case, in their order.
 pub(super) const NAME: usize = 0;

@@ -21,7 +21,7 @@ use Rattle.model.specs.Run.{Ran, run}
 use Rattle.model.specs.Marks.{markCheck, Accepted}
 use Rattle.model.specs.Expansion.{expand}
 use Rattle.model.specs.Programs.{inputSize, traceBudget, orRefusal, printed, numbersText, refusalText, endingText, traceText, expandPrints, tracePrints}
-use Rattle.walk.specs.Walk.{verdictReport}
+use Rattle.sets.specs.Walk.{verdictReport}
 use Rattle.model.proofs.DecimalLaws.{decimal-5}
 use Rattle.model.proofs.SpellingLaws.{line-34}
 use Rattle.model.proofs.ExpansionLaws.{expansion-most, expansion-correct}

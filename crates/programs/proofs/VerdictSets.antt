@@ -20,10 +20,10 @@ use Rattle.model.specs.Code.{code}
 use Rattle.model.specs.Images.{byKind, fixed, imageAt, image, toImageOutcome}
 use Rattle.model.proofs.TestLaws.{both-and}
 use Rattle.model.proofs.PlaceLaws.{mapAt-getD}
-use Rattle.walk.specs.Walk.{setWidth, maxValues, listed, listsFrom, setsOf, sized, distinct, values}
-use Rattle.walk.specs.Claims.{In, OnlyImage, Images}
-use Rattle.walk.proofs.Members.{distinct-in}
-use Rattle.walk.proofs.Reports.{values-of}
+use Rattle.sets.specs.Walk.{setWidth, maxValues, listed, listsFrom, setsOf, sized, distinct, values}
+use Rattle.sets.specs.Claims.{In, OnlyImage, Images}
+use Rattle.sets.proofs.Members.{distinct-in}
+use Rattle.sets.proofs.Reports.{values-of}
 use Rattle.programs.specs.Verdicts.{imageValues, setBytes, imageSetsFrom, imageSets, setsBefore}
 use Rattle.programs.proofs.RunLaws.{zeros, zero-image}
 

@@ -23,10 +23,10 @@ use Rattle.model.specs.Programs.{orRefusal}
 use Rattle.model.proofs.RoundTrip.{reads-lines}
 use Rattle.model.proofs.ExpansionLaws.{expansion-most, expansion-correct}
 use Rattle.model.proofs.CheckAnswers.{NoCount, Refusal}
-use Rattle.walk.specs.declared.Verdict.the-variants.{Balanced, Spent, Leak, Refused}
-use Rattle.walk.specs.Walk.{told, verdictReport}
-use Rattle.walk.specs.Claims.{Clear}
-use Rattle.walk.proofs.Expansions.{no-false-alarm}
+use Rattle.sets.specs.declared.Verdict.the-variants.{Balanced, Spent, Leak, Refused}
+use Rattle.sets.specs.Walk.{told, verdictReport}
+use Rattle.sets.specs.Claims.{Clear}
+use Rattle.sets.proofs.Expansions.{no-false-alarm}
 use Rattle.programs.specs.Printing.{rowsFrom, rowsText, linesText}
 use Rattle.programs.specs.Loading.{readInput}
 use Rattle.programs.specs.Verdicts.{verdictSize, verdictBudget, imageSets, balancedText, spentText, leakText, verdictText, verdictPrints, NoAlarm, balanced, spent}

@@ -14,7 +14,7 @@ use Rattle.model.specs.Code.{code}
 use Rattle.model.specs.Images.{byKind, fixed}
 use Rattle.model.specs.Text.{comma, reading}
 use Rattle.model.specs.Programs.{numbersText, refusalText, orRefusal}
-use Rattle.walk.specs.Walk.{maxValues, setWidth, verdictReport}
+use Rattle.sets.specs.Walk.{maxValues, setWidth, verdictReport}
 
 -- the most bytes that it reads, and the budget of the walk
 abbrev pub verdictSize : ℕ

@@ -9,7 +9,7 @@ ghost use Rattle.model.specs.Images.{imageAt};
 ghost use Rattle.model.specs.Layouts.{neighbours};
 ghost use Rattle.model.specs.Limits.{lineWidth, maxLines, stateSize};
 ghost use Rattle.model.specs.Text.{fitted};
-ghost use Rattle.walk.specs.Walk.{setWidth, told, verdictReport};
+ghost use Rattle.sets.specs.Walk.{setWidth, told, verdictReport};
 ghost use Rattle.programs.specs.Verdicts.{verdictBudget, imageSets, setsBefore, verdictText, verdictPrints};
 use crate::lines::write_lines;
 use crate::reader::read_lines;
@@ -18,8 +18,8 @@ use model::Answer;
 use model::LINE_WIDTH;
 use model::MAX_LINES;
 use model::STATE_SIZE;
-use walk::SETS_SIZE;
-use walk::Verdict;
+use sets::SETS_SIZE;
+use sets::Verdict;
 
 // The most bytes of an input.
 pub const INPUT_SIZE: usize = 262144;

@@ -1,17 +1,2 @@
-pub mod Members
-pub mod DrawnStates
-pub mod Sound
-pub mod Bounds
-pub mod Reports
-pub mod Chains
-pub mod ImageBounds
-pub mod Steps
-pub mod Macros
-pub mod Expansions
-pub mod SetBytes
-pub mod Gathered
-pub mod Exploring
-pub mod Turns
-pub mod Narrowing
 pub mod StepLaws
 pub mod WalkLaws

@@ -12,15 +12,16 @@ use Rattle.model.specs.Places.{State, place}
 use Rattle.model.specs.Step.{Row, result, next}
 use Rattle.model.specs.Stored.{operandOf}
 use Rattle.walk.specs.declared.Move.the-variants.{To, Leaks, Refuses}
-use Rattle.walk.specs.Walk.{Sets, maxValues, setWidth, listed, heads, involved, draw, choices, unsettled, written, steady, onto}
-use Rattle.walk.specs.Claims.{Full}
-use Rattle.walk.specs.Gathering.{Gathered, gathered, visitedAll, Tells, Settled, moves, lineBy}
-use Rattle.walk.proofs.Members.{in-some}
-use Rattle.walk.proofs.DrawnStates.{heads-drawn, in-written}
-use Rattle.walk.proofs.Sound.{not-unsettled}
-use Rattle.walk.proofs.Gathered.{full-some, tells}
-use Rattle.walk.proofs.SetBytes.{listed-front, listed-at}
-use Rattle.walk.proofs.Exploring.{heads-put}
+use Rattle.sets.specs.Walk.{Sets, maxValues, setWidth, listed, heads, involved, draw, choices, unsettled, written, steady, onto}
+use Rattle.sets.specs.Claims.{Full}
+use Rattle.choices.specs.Gathering.{Gathered, gathered, visitedAll, Tells, Settled, lineBy}
+use Rattle.walk.specs.Moves.{moves}
+use Rattle.sets.proofs.Members.{in-some}
+use Rattle.sets.proofs.DrawnStates.{heads-drawn, in-written}
+use Rattle.sets.proofs.Sound.{not-unsettled}
+use Rattle.choices.proofs.Gathered.{full-some, tells}
+use Rattle.choices.proofs.SetBytes.{listed-front, listed-at}
+use Rattle.choices.proofs.Exploring.{heads-put}
 
 -- ---- before and after its choices
 

@@ -17,13 +17,13 @@ use Rattle.model.specs.Step.{next}
 use Rattle.model.specs.Stored.{lineAt, lineCount, lines, programCheck}
 use Rattle.model.proofs.StoredLaws.{length-lines, get-line, no-line}
 use Rattle.model.proofs.CheckAnswers.{program-answers, NoCount, Refusal, no-count-refuses}
-use Rattle.walk.specs.declared.Verdict.{Verdict}
-use Rattle.walk.specs.declared.Verdict.the-variants.{Balanced, Spent, Leak, Refused}
+use Rattle.sets.specs.declared.Verdict.{Verdict}
+use Rattle.sets.specs.declared.Verdict.the-variants.{Balanced, Spent, Leak, Refused}
 use Rattle.walk.specs.declared.Move.{Move}
 use Rattle.walk.specs.declared.Move.the-variants.{To, Leaks, Refuses}
-use Rattle.walk.specs.Walk.{Sets, maxValues, setWidth, setsOf, sized, heads, unsettled, written, steady, onto, ended, walk, told, judged, verdictReport}
-use Rattle.walk.specs.Gathering.{moves, verdictOf, refusalOf}
-use Rattle.walk.proofs.Sound.{walk-some, walk-none, walk-zero}
+use Rattle.sets.specs.Walk.{Sets, maxValues, setWidth, setsOf, sized, heads, unsettled, written, steady, onto, ended, walk, told, judged, verdictReport}
+use Rattle.walk.specs.Moves.{moves, verdictOf, refusalOf}
+use Rattle.sets.proofs.Sound.{walk-some, walk-none, walk-zero}
 
 -- ---- one step
 

@@ -1,5 +1,5 @@
-// Req 01, the verdict on patched listings: a walk over a stored program whose steps work on sets of values. specs/Walk has the definitions,
-// specs/Claims what a verdict means; sets.rt has the bytes of sets, choices.rt what a line does in all states of the sets.
+// Req 01, the verdict on patched listings: a walk over a stored program whose steps work on sets of values. The crate `sets` has the
+// definitions and what a verdict means, `choices` the bytes of sets and what a line does in all states of the sets.
 ghost use mathlib.Core.Path.{_≡_};
 ghost use mathlib.Core.List.{map};
 ghost use Prim.Native.Nat.{ℕ, _*_, _<_, _≤_};
@@ -9,11 +9,19 @@ ghost use Rattle.model.specs.Limits.{stateSize, lineWidth, maxLines};
 ghost use Rattle.model.specs.Places.{kind};
 ghost use Rattle.model.specs.Step.{meaning};
 ghost use Rattle.model.specs.Stored.{operandOf, lineCount, lines};
-ghost use Rattle.walk.specs.Walk.{setWidth, maxValues, listed, listsOf, setsOf, sized, values, distinct, heads, branches, loose, unsettled, onto, walk, told, verdictReport};
-ghost use Rattle.walk.specs.Claims.{Full};
-ghost use Rattle.walk.specs.Gathering.{lineBy, moves, refusalOf};
+ghost use Rattle.sets.specs.Walk.{setWidth, maxValues, listed, listsOf, setsOf, sized, values, distinct, heads, branches, loose, unsettled, onto, walk, told, verdictReport};
+ghost use Rattle.sets.specs.Claims.{Full};
+ghost use Rattle.choices.specs.Gathering.{lineBy};
+ghost use Rattle.walk.specs.Moves.{moves, refusalOf};
 ghost use Rattle.walk.specs.declared.Move.the-variants.{To};
 use choices::base_of;
+use choices::bytes::ROOM;
+use choices::bytes::is_overfull;
+use choices::bytes::is_several;
+use choices::bytes::note;
+use choices::bytes::put_set;
+use choices::bytes::size_of;
+use choices::bytes::value_of;
 use choices::explore;
 use model::Answer;
 use model::LINE_WIDTH;
@@ -22,29 +30,9 @@ use model::Opcode;
 use model::ROW_WIDTH;
 use model::STATE_SIZE;
 use sets::MAX_VALUES;
-use sets::ROOM;
 use sets::SET_WIDTH;
-use sets::is_overfull;
-use sets::is_several;
-use sets::note;
-use sets::put_set;
-use sets::size_of;
-use sets::value_of;
-
-mod choices;
-mod sets;
-
-// The bytes of the sets of all places.
-pub const SETS_SIZE: usize = SET_WIDTH * STATE_SIZE;
-
-// What the walk answers: balanced or spent, as a run would be halted or spent, with counter and steps; a leak, with the first line where
-// two choices give different rows and the steps done before it; or the number of the condition that holds, and the line.
-pub enum Verdict {
-    Balanced { counter: u16, steps: u16 },
-    Spent { counter: u16, steps: u16 },
-    Leak { line: u16, steps: u16 },
-    Refused { number: u8, line: u16 },
-}
+use sets::SETS_SIZE;
+use sets::Verdict;
 
 // What one step on sets answers: the next counter, or how the walk ends.
 enum Move {

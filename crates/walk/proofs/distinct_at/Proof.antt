@@ -9,10 +9,10 @@ use Rattle.model.specs.Limits.{stateSize}
 use Rattle.model.specs.Places.{kind}
 use Rattle.model.specs.Step.{meaning}
 use Rattle.model.proofs.TestLaws.{below}
-use Rattle.walk.specs.Walk.{setWidth, maxValues, listed, listsOf, values, insertAll, insert, distinct}
-use Rattle.walk.proofs.SetBytes.{listed-few, values-past, values-le}
-use Rattle.walk.proofs.Gathered.{insert-grows}
-use Rattle.walk.proofs.Turns.{put-over, put-next}
+use Rattle.sets.specs.Walk.{setWidth, maxValues, listed, listsOf, values, insertAll, insert, distinct}
+use Rattle.choices.proofs.SetBytes.{listed-few, values-past, values-le}
+use Rattle.choices.proofs.Gathered.{insert-grows}
+use Rattle.choices.proofs.Turns.{put-over, put-next}
 use borrow.Author.Needs.{needs}
 use Rattle.walk.proofs.distinct_at.Statement.{statement}
 use Rattle.walk.proofs.distinct_at.Tie as tie

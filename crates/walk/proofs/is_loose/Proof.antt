@@ -13,8 +13,8 @@ use Rattle.model.specs.Places.{State, kind, place}
 use Rattle.model.specs.Step.{meaning}
 use Rattle.model.specs.Stored.{operandOf}
 use Rattle.model.proofs.Operands.{kind-place}
-use Rattle.walk.specs.Walk.{Sets, setWidth, maxValues, listed, listsOf, values, distinct, several, heads, base, meanings, loose}
-use Rattle.walk.proofs.SetBytes.{listed-few}
+use Rattle.sets.specs.Walk.{Sets, setWidth, maxValues, listed, listsOf, values, distinct, several, heads, base, meanings, loose}
+use Rattle.choices.proofs.SetBytes.{listed-few}
 use borrow.Author.Needs.{needs}
 use Rattle.walk.proofs.is_loose.Statement.{statement}
 use Rattle.walk.proofs.is_loose.Tie as tie

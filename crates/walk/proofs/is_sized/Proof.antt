@@ -4,8 +4,8 @@ use Prim.Native.Nat.{_*_, _-_, _≤_}
 use native.Mathlib.Omega.{arith}
 use lib.ListN.{drop}
 use Rattle.model.specs.Limits.{stateSize}
-use Rattle.walk.specs.Walk.{setWidth, sized}
-use Rattle.walk.proofs.Turns.{sized-empty, sized-long, sized-next, sized-over}
+use Rattle.sets.specs.Walk.{setWidth, sized}
+use Rattle.choices.proofs.Turns.{sized-empty, sized-long, sized-next, sized-over}
 use borrow.Author.Needs.{needs}
 use Rattle.walk.proofs.is_sized.Statement.{statement}
 use Rattle.walk.proofs.is_sized.Tie as tie

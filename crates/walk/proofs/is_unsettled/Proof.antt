@@ -4,8 +4,8 @@ use mathlib.Core.Bool.{Bool, true, false}
 use Prim.Native.Nat.{ℕ}
 use Rattle.model.specs.declared.Mark.{Mark}
 use Rattle.model.specs.declared.Line.{Line}
-use Rattle.walk.specs.Walk.{Sets, listsOf, values, several, base, branches, loose, unsettled}
-use Rattle.walk.specs.Gathering.{lineBy}
+use Rattle.sets.specs.Walk.{Sets, listsOf, values, several, base, branches, loose, unsettled}
+use Rattle.choices.specs.Gathering.{lineBy}
 use borrow.Author.Needs.{needs}
 use Rattle.walk.proofs.is_unsettled.Statement.{statement}
 use Rattle.walk.proofs.is_unsettled.Tie as tie

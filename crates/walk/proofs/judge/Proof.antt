@@ -5,7 +5,7 @@ use borrow.Author.Tests.{not-true, not-false}
 use Rattle.model.proofs.StoredLaws.{program-checked}
 use Rattle.model.proofs.CheckAnswers.{count-told}
 use Rattle.model.proofs.TestLaws.{holds}
-use Rattle.walk.proofs.Reports.{sized-full}
+use Rattle.sets.proofs.Reports.{sized-full}
 use Rattle.walk.proofs.WalkLaws.{no-program, no-sets, no-sizes, walks}
 use borrow.Author.Needs.{needs}
 use Rattle.walk.proofs.judge.Statement.{statement}

@@ -9,9 +9,9 @@ use Rattle.model.specs.Places.{State}
 use Rattle.model.specs.Step.{next}
 use Rattle.model.specs.Stored.{lineOf}
 use Rattle.walk.specs.declared.Move.the-variants.{To}
-use Rattle.walk.specs.Walk.{maxValues, setWidth, listed, listsOf}
-use Rattle.walk.specs.Gathering.{gathered, lineBy}
-use Rattle.walk.proofs.SetBytes.{listed-few}
+use Rattle.sets.specs.Walk.{maxValues, setWidth, listed, listsOf}
+use Rattle.choices.specs.Gathering.{gathered, lineBy}
+use Rattle.choices.proofs.SetBytes.{listed-few}
 use Rattle.walk.proofs.StepLaws.{settled-none, told-all, no-to, leaks-to, moves-21, moves-22, moves-leak, moves-on, all-told, went, went-heads}
 use borrow.Author.Needs.{needs}
 use Rattle.walk.proofs.step.Statement.{statement}

@@ -12,10 +12,10 @@ use Rattle.model.specs.declared.Kind.{Kind}
 use Rattle.model.specs.declared.Mark.the-variants.{Unmarked}
 use Rattle.model.specs.Places.{State, kind}
 use Rattle.model.specs.Step.{meaning}
-use Rattle.walk.specs.Walk.{Sets, setWidth, maxValues, listed, listsOf, setsOf, sized, values, heads, distinct}
-use Rattle.walk.proofs.SetBytes.{lists-length, listed-at, listed-front}
-use Rattle.walk.proofs.DrawnStates.{heads-at}
-use Rattle.walk.proofs.Reports.{values-of, sized-full}
+use Rattle.sets.specs.Walk.{Sets, setWidth, maxValues, listed, listsOf, setsOf, sized, values, heads, distinct}
+use Rattle.choices.proofs.SetBytes.{listed-at, listed-front}
+use Rattle.sets.proofs.DrawnStates.{heads-at}
+use Rattle.sets.proofs.Reports.{lists-length, values-of, sized-full}
 use borrow.Author.Needs.{needs}
 use Rattle.walk.proofs.take_sets.Statement.{statement}
 use Rattle.walk.proofs.take_sets.Tie as tie

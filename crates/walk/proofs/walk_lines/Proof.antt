@@ -4,10 +4,11 @@ use mathlib.Core.List.{List}
 use Prim.Native.Nat.{ℕ, _-_, _≤_}
 use native.Mathlib.Omega.{arith}
 use Rattle.model.specs.Stored.{lines, lineAt}
-use Rattle.walk.specs.Walk.{listsOf, heads, onto, walk}
-use Rattle.walk.specs.Claims.{Full}
-use Rattle.walk.specs.Gathering.{lineBy, moves}
-use Rattle.walk.proofs.Sound.{onto-full}
+use Rattle.sets.specs.Walk.{listsOf, heads, onto, walk}
+use Rattle.sets.specs.Claims.{Full}
+use Rattle.choices.specs.Gathering.{lineBy}
+use Rattle.walk.specs.Moves.{moves}
+use Rattle.sets.proofs.Sound.{onto-full}
 use Rattle.walk.proofs.WalkLaws.{begins, spends, balances, ends, goes-on}
 use borrow.Author.Needs.{needs}
 use Rattle.walk.proofs.walk_lines.Statement.{statement}

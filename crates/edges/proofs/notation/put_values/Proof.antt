@@ -3,7 +3,7 @@
 use Prim.Native.Nat.{_≤_, _-_}
 use mathlib.Core.Path.{_≡_}
 use lib.ListN.{length}
-use Rattle.walk.specs.Walk.{maxValues}
+use Rattle.sets.specs.Walk.{maxValues}
 use borrow.Author.Needs.{needs}
 use Rattle.edges.proofs.notation.put_values.Statement.{statement}
 use Rattle.edges.proofs.notation.put_values.Tie as tie

@@ -7,7 +7,7 @@ use lib.ListN.{length, set}
 use Rattle.model.specs.declared.Layout.{Layout}
 use Rattle.model.specs.Places.{isSensitive}
 use Rattle.model.specs.Code.{code}
-use Rattle.walk.specs.Walk.{setWidth}
+use Rattle.sets.specs.Walk.{setWidth}
 use Rattle.programs.proofs.VerdictSets.{both-codes, one-value, before-long, before-next}
 use borrow.Author.Needs.{needs}
 use Rattle.programs.proofs.verdict.put_values.Statement.{statement}

@@ -4,7 +4,7 @@ use mathlib.Core.List.{List}
 use Prim.Native.Nat.{ℕ}
 use Rattle.model.specs.Answers.{Report}
 use Rattle.model.specs.Text.{fitted}
-use Rattle.walk.specs.Walk.{verdictReport}
+use Rattle.sets.specs.Walk.{verdictReport}
 use Rattle.programs.specs.Verdicts.{verdictBudget, verdictText}
 use Rattle.programs.proofs.VerdictSets.{before-all}
 use borrow.Author.Needs.{needs}

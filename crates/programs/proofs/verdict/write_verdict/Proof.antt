@@ -3,8 +3,8 @@ use mathlib.Core.Path.{sym, ap, _∙_}
 use mathlib.Core.List.{List}
 use Prim.Native.Nat.{ℕ}
 use Rattle.model.specs.Text.{fitted}
-use Rattle.walk.specs.declared.Verdict.{Verdict}
-use Rattle.walk.specs.Walk.{told}
+use Rattle.sets.specs.declared.Verdict.{Verdict}
+use Rattle.sets.specs.Walk.{told}
 use Rattle.programs.specs.Verdicts.{verdictText}
 use Rattle.programs.proofs.VerdictTexts.{balanced-line, spent-line, leak-line, refused-line}
 use borrow.Author.Needs.{needs}

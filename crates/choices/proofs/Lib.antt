@@ -1,0 +1,5 @@
+pub mod SetBytes
+pub mod Gathered
+pub mod Exploring
+pub mod Turns
+pub mod Narrowing

@@ -1,0 +1,10 @@
+pub mod Members
+pub mod DrawnStates
+pub mod Sound
+pub mod Bounds
+pub mod Reports
+pub mod Chains
+pub mod ImageBounds
+pub mod Steps
+pub mod Macros
+pub mod Expansions
