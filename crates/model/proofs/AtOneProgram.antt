@@ -17,7 +17,7 @@ use Rattle.model.specs.Places.{State}
 use Rattle.model.specs.Lines.{correct}
 use Rattle.model.specs.Text.{sameBytes}
 use Rattle.model.specs.Step.{Row, row, next, after}
-use Rattle.model.specs.Run.{run}
+use Rattle.model.specs.Run.{Ran, run}
 use Rattle.model.specs.Images.{image}
 use Rattle.model.specs.Expansion.{markedLine, move, load, scale, combine, fetch, flip, writeBack, start, expand}
 use Rattle.model.specs.Marks.{Accepted}
@@ -55,16 +55,23 @@ sameRows [] (y ∷ ys) = false
 sameRows (x ∷ xs) [] = false
 sameRows (x ∷ xs) (y ∷ ys) = sameBytes x y && sameRows xs ys
 
--- the trace is that of the bits 0 and 0, and the state past r3 that the expansion ends with is the image of the source's
-abbrev claimed : Layout → ℕ → ℕ → Bool
-claimed L a b =
-    let x = run (expand L small) 1000 (start L small 0) (image L (bits a b)) in
-    let y = run (expand L small) 1000 (start L small 0) (image L (bits 0 0)) in
-    let z = run small 1000 0 (bits a b) in
-    sameRows (x .rows) (y .rows) && sameBytes (drop 4 (x .state)) (drop 4 (image L (z .state)))
+-- the run of the expansion from the image of these bits
+abbrev ran : Layout → ℕ → ℕ → Ran
+ran L a b = run (expand L small) 1000 (start L small 0) (image L (bits a b))
 
+-- the state past r3 that it ends with is the image of the source's
+abbrev ends : Layout → ℕ → ℕ → Ran → Bool
+ends L a b x =
+    let z = run small 1000 0 (bits a b) in
+    sameBytes (drop 4 (x .state)) (drop 4 (image L (z .state)))
+
+-- so it ends, and its trace is that of another
+abbrev claimed : Layout → Ran → ℕ → ℕ → Bool
+claimed L y a b = let x = ran L a b in sameRows (x .rows) (y .rows) && ends L a b x
+
+-- the traces of all bits are that of the bits 0 and 0
 abbrev allClaimed : Layout → Bool
-allClaimed L = claimed L 0 0 && claimed L 0 1 && claimed L 1 0 && claimed L 1 1
+allClaimed L = let y = ran L 0 0 in ends L 0 0 y && claimed L y 0 1 && claimed L y 1 0 && claimed L y 1 1
 
 pub small-claimed : T (forLayouts allClaimed)
 unfolding allBelow run expand image row next after ones load scale combine fetch flip writeBack
