@@ -5,7 +5,7 @@ use mathlib.Core.List.{List, [], _∷_, flatMap}
 use Prim.Native.Nat.{ℕ, _*_, _≤_}
 use lib.ListN.{length}
 use Rattle.model.specs.Layouts.{layoutOf}
-use Rattle.model.specs.Answers.{Report, done, report, counted, Outcome, outcome, atFront}
+use Rattle.model.specs.Answers.{Report, done, report, counted, Outcome, outcome, atFront, andThen}
 use Rattle.model.specs.Limits.{lineWidth}
 use Rattle.model.specs.Expansion.{expandOutcome}
 use Rattle.model.specs.declared.Answer.{Answer}
@@ -17,7 +17,7 @@ use Rattle.model.proofs.OutcomeLaws.{never-done, run-outcome}
 use Rattle.model.proofs.CheckAnswers.{CountOrRefusal, counts, refuses, program-answers, expand-answers, NoCount, Refusal, no-count-refuses}
 use Rattle.sets.specs.declared.Verdict.{Verdict}
 use Rattle.walk.specs.Moves.{refusalOf}
-use Rattle.sets.specs.Walk.{told, verdictReport}
+use Rattle.sets.specs.Walk.{told, judged, verdictReport}
 use Rattle.sets.specs.Claims.{Clear, Images}
 use Rattle.sets.proofs.Reports.{sound}
 use Rattle.sets.proofs.Expansions.{no-false-alarm}
@@ -26,13 +26,13 @@ use Rattle.balance.specs.EntryClaims.{Expanded, listing}
 use Rattle.balance.proofs.EntryRuns.{listed, ending, answer-is, leaves-is}
 
 -- a clear report is of a program that no check refused
+clear-counts : (r v : Report) → CountOrRefusal r → Clear (andThen r v) → (n : ℕ) × (r ≡ counted n)
+clear-counts r v (counts n e) h = (n, e)
+clear-counts r v (refuses k l e) h = absurd (subst (λ (z : Report). Clear (andThen z v)) e h)
+
 checked : (q sets : List ℕ) (b : ℕ) → Clear (verdictReport q sets b) → (n : ℕ) × (programCheck q ≡ counted n)
 unfolding verdictReport
-checked q sets b h = go (program-answers q)
-  where
-    go : CountOrRefusal (programCheck q) → (n : ℕ) × (programCheck q ≡ counted n)
-    go (counts n e) = (n, e)
-    go (refuses k l e) = absurd (rw e at h)
+checked q sets b h = clear-counts (programCheck q) (told (judged (lines q) sets b)) (program-answers q) h
 
 pub sound-calls : SoundCalls
 sound-calls q sets b s t x y D h =
