@@ -16,6 +16,7 @@ pub mod Acceptance
 pub mod Finite
 pub mod Pieces
 pub mod ImageLaws
+pub mod ZeroImage
 pub mod Loads
 pub mod Lengths
 pub mod MarkedLines

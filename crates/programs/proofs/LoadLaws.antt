@@ -27,14 +27,12 @@ use Rattle.model.proofs.ExpansionLaws.{expansion-most, expansion-check, expansi
 use Rattle.model.proofs.OutcomeLaws.{first-store}
 use Rattle.model.proofs.CheckAnswers.{CountOrRefusal, counts, refuses, either, then-answers, reading-answers, mark-answers, accepted-source, NoCount, count-told, Refusal, no-count-refuses, refusal-leaves}
 use Rattle.model.specs.Text.{fitted}
-use Rattle.programs.specs.Loading.{mostNumbers, readInput, expansionOf, loadAnswer, loadOutcome}
+use Rattle.lines.specs.Reading.{readInput}
+use Rattle.lines.proofs.InputLaws.{read-input, answer-is, refusal-read, count-is, stored-fits, stored-part}
+use Rattle.programs.specs.Loading.{mostNumbers, expansionOf, loadAnswer, loadOutcome}
 use Rattle.programs.proofs.ReadRoom.{room-enough}
 
 -- ---- the definitions' clauses, with what they cite shut
-
-pub read-input : (input : List ℕ) → readInput input ≡ reading maxLines 0 maxLines input
-unfolding readInput
-read-input input = refl
 
 expansion-of : (input : List ℕ) → expansionOf input ≡ expand neighbours (lines (readInput input .stored))
 unfolding expansionOf
@@ -78,39 +76,7 @@ too-long input store h =
 
 -- ---- an input that is read
 
--- into a store with room for every line
-module _ (input store new : List ℕ) (a : Answer) (same : reading maxLines 0 (length store / lineWidth) input ≡ readInput input) (e : outcome (report a) (new ∷ []) ≡ readOutcome input store) where
-  outcome-is : outcome (report a) (new ∷ []) ≡ outcome (readInput input .answer) (atFront (readInput input .stored) store ∷ [])
-  outcome-is = e ∙ read-outcome input store ∙ ap (λ (r : Reading). outcome (r .answer) (atFront (r .stored) store ∷ [])) same
-
-  pub answer-is : report a ≡ readInput input .answer
-  answer-is = ap (λ (o : Outcome). o .answer) outcome-is
-
-  store-is : new ≡ atFront (readInput input .stored) store
-  store-is = ap first-store outcome-is
-
-  pub refusal-read : NoCount a → Refusal (readInput input .answer)
-  refusal-read h =
-      let c : CountOrRefusal (readInput input .answer) = rw (read-input input) (reading-answers maxLines 0 maxLines input) in
-      no-count-refuses a h c answer-is
-
-  module _ (n : ℕ) (counted-n : a ≡ Count n) where
-    pub count-is : readInput input .answer ≡ counted n
-    count-is = count-told counted-n answer-is
-
-    stored-length : length (readInput input .stored) ≡ lineWidth * n
-    stored-length =
-        let q : readInput input ≡ record { answer = counted n; stored = readInput input .stored } = ap (λ (r : Report). record { answer = r; stored = readInput input .stored }) count-is in
-        let r = reads-back maxLines 0 maxLines input n (readInput input .stored) (omega arith) (sym (read-input input) ∙ q) in
-        ap length (r .stored-is) ∙ codes-length (r .lines-are) ∙ omega (arith, r .count)
-
-    pub stored-fits : lineWidth * n ≤ length new
-    stored-fits = omega (arith, ap length store-is, stored-length, length-append (readInput input .stored) (drop (length (readInput input .stored)) store))
-
-    pub stored-part : take (lineWidth * n) new ≡ readInput input .stored
-    stored-part = ap (take (lineWidth * n)) store-is ∙ take-at (readInput input .stored) (drop (length (readInput input .stored)) store) (lineWidth * n) stored-length
-
--- of the two programs, whose stores have room for a line for each byte
+-- by the two programs, whose stores have room for a line for each byte
 module _ (input store new : List ℕ) (a : Answer) (small : length input ≤ inputSize) (room : length store ≡ lineWidth * inputSize) (e : outcome (report a) (new ∷ []) ≡ readOutcome input store) where
   reading-is : reading maxLines 0 (length store / lineWidth) input ≡ readInput input
   reading-is = room-enough maxLines 0 (length store / lineWidth) maxLines input (omega arith) (omega arith) ∙ sym (read-input input)

@@ -5,29 +5,27 @@ use mathlib.Core.Bool.{Bool, true, false, cond}
 use mathlib.Core.List.{List, [], _∷_, _++_, flatMap}
 use mathlib.Core.Option.{Option, none, some}
 use native.Mathlib.Omega.{arith}
-use borrow.Author.Tests.{eq-eqb}
-use lib.Dec.{eqb, leb, ltb}
-use lib.ListN.{length, take, drop, replicate, getElem?, length-append, length-replicate}
+use lib.Dec.{ltb}
+use lib.ListN.{length, take, drop, getElem?, length-append, length-replicate}
 use lib.Seq.{take-at, drop-at}
 use Rattle.model.specs.Layouts.{neighbours}
 use Rattle.model.specs.declared.Answer.{Answer}
 use Rattle.model.specs.declared.Line.{Line}
 use Rattle.model.specs.Limits.{lineWidth, stateSize, rowWidth}
 use Rattle.model.specs.Answers.{Report, done, report, counted, refused, halted, spent, Outcome, outcome, atFront}
-use Rattle.model.specs.declared.Kind.{Kind}
-use Rattle.model.specs.declared.Kind.the-variants.{Neither, Public, Sensitive}
-use Rattle.model.specs.Places.{State, kind}
+use Rattle.model.specs.Places.{State}
 use Rattle.model.specs.Step.{Row, next, after}
 use Rattle.model.specs.Stored.{lineCount, lines, programCheck}
 use Rattle.model.specs.Run.{Ran, run, answer, runLeaves, runOutcome}
-use Rattle.model.specs.Images.{byKind, image, every, bitRight, carried, toImageOutcome}
+use Rattle.model.specs.Images.{image, toImageOutcome}
 use Rattle.model.specs.Expansion.{expand}
 use Rattle.model.specs.Programs.{traceBudget, orRefusal, printed, numbersText, endingText, traceText, tracePrints}
-use Rattle.model.proofs.OutcomeLaws.{first-store, second-store, run-outcome}
+use Rattle.model.proofs.OutcomeLaws.{second-store, run-outcome}
 use Rattle.model.proofs.PlaceLaws.{image-length}
+use Rattle.model.proofs.ZeroImage.{zeros, zero-image}
 use Rattle.model.proofs.Runs.{run-zero, stopped, step-run, row-length, flat}
 use Rattle.model.proofs.CheckAnswers.{NoCount}
-use Rattle.programs.specs.Printing.{rowsFrom, rowsText, linesText}
+use Rattle.lines.specs.Printing.{rowsFrom, rowsText, linesText}
 use Rattle.model.specs.Text.{fitted}
 use Rattle.programs.specs.Loading.{loadOutcome}
 use Rattle.programs.specs.Running.{runText, endedText}
@@ -115,31 +113,6 @@ module _ (p : List Line) (x : Ran) where
 
   never-refused : (k l : ℕ) → refused k l ≡ answer p x → ⊥
   never-refused k l e = let q : refused k l ≡ done (endNumber (ltb (x .at) (length p)) ∷ x .at ∷ length (x .rows) ∷ []) = e ∙ answer-is in let z : _≡_ {A = ℕ} 0 1 = cc q in omega arith
-
--- ---- the image of the all-zero state
-
-zero-bit : (k : Kind) → byKind k (eqb 0 0) true (leb 0 1) ≡ true
-zero-bit Neither = refl
-zero-bit Public = refl
-zero-bit Sensitive = refl
-
-zero-bits : (n i : ℕ) → every bitRight i (replicate n 0) ≡ true
-unfolding every bitRight
-zero-bits zero i = refl
-zero-bits (suc n) i = rw (zero-bit (kind i)) (zero-bits n (suc i))
-
-carried-over : (right : ℕ → ℕ → Bool) (over : State → State) (from into : State) → length from ≡ stateSize → length into ≡ stateSize → every right 0 from ≡ true
-    → carried right over from into ≡ outcome (counted stateSize) (over from ∷ [])
-unfolding carried
-carried-over right over from into h g e = rw (eq-eqb (length from) stateSize h, eq-eqb (length into) stateSize g, e)
-
-abbrev pub zeros : State
-zeros = replicate stateSize 0
-
-pub zero-image : (new : State) (r : Report) → outcome r (new ∷ []) ≡ toImageOutcome 0 0 zeros zeros → new ≡ image neighbours zeros
-zero-image new r e =
-    let h : length zeros ≡ stateSize = length-replicate {A = ℕ} stateSize 0 in
-    ap first-store (e ∙ carried-over bitRight (image neighbours) zeros zeros h h (zero-bits stateSize 0))
 
 -- ---- a run that is not refused
 

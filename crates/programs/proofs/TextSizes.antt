@@ -5,8 +5,8 @@ use mathlib.Core.Bool.{Bool, true, false, cond}
 use mathlib.Core.List.{List, [], _∷_, _++_, flatMap}
 use mathlib.Core.Option.{Option, none, some}
 use native.Mathlib.Omega.{arith}
-use lib.Dec.{ltb, eqb}
-use lib.ListN.{length, getD, getElem?, length-append}
+use lib.Dec.{ltb}
+use lib.ListN.{length, getElem?, length-append}
 use Rattle.model.specs.Layouts.{neighbours}
 use Rattle.model.proofs.Finite.{near}
 use Rattle.model.specs.declared.Line.{Line}
@@ -15,42 +15,23 @@ use Rattle.model.specs.Answers.{Report, done, refused, counted, outcome, atFron
 use Rattle.model.specs.Places.{State}
 use Rattle.model.specs.Lines.{AllCorrect}
 use Rattle.model.specs.Stored.{lines}
-use Rattle.model.specs.Text.{newline, decimal, spellLine}
+use Rattle.model.specs.Text.{spellLine}
 use Rattle.model.specs.Step.{Row, next, after}
 use Rattle.model.specs.Run.{Ran, run}
 use Rattle.model.specs.Marks.{markCheck, Accepted}
 use Rattle.model.specs.Expansion.{expand}
-use Rattle.model.specs.Programs.{inputSize, traceBudget, orRefusal, printed, numbersText, refusalText, endingText, traceText, expandPrints, tracePrints}
-use Rattle.sets.specs.Walk.{verdictReport}
-use Rattle.model.proofs.DecimalLaws.{decimal-5}
+use Rattle.model.specs.Programs.{inputSize, traceBudget, orRefusal, printed, numbersText, endingText, traceText, expandPrints, tracePrints}
 use Rattle.model.proofs.SpellingLaws.{line-34}
 use Rattle.model.proofs.ExpansionLaws.{expansion-most, expansion-correct}
 use Rattle.model.proofs.Runs.{run-zero, stopped, step-run}
 use Rattle.model.proofs.CheckAnswers.{accepted-source}
 use Rattle.model.specs.Text.{fitted}
-use Rattle.programs.specs.Printing.{expansionBytes, rowBytes, traceBytes}
-use Rattle.programs.specs.Loading.{readInput}
-use Rattle.programs.specs.Verdicts.{verdictSize, verdictBudget, verdictBytes, imageSets, balancedText, spentText, leakText, verdictText, verdictPrints}
-use Rattle.programs.proofs.LeftLaws.{all-fits}
-use Rattle.programs.proofs.LineTexts.{listed, cons-text}
+use Rattle.programs.specs.Sizes.{expansionBytes, rowBytes, traceBytes}
+use Rattle.lines.specs.Reading.{readInput}
+use Rattle.lines.proofs.LeftLaws.{all-fits}
+use Rattle.lines.proofs.LineTexts.{numbers-most, refusal-most}
 use Rattle.programs.proofs.LoadLaws.{printed-is, expand-prints}
-use Rattle.programs.proofs.VerdictTexts.{verdict-prints}
 use Rattle.programs.proofs.RunLaws.{Sixes, run-sixes, ending-is, endWord, trace-text, lineRun, trace-prints}
-
--- ---- lines of numbers
-
-listed-most : (ns : List ℕ) → length (listed ns) ≤ 6 * length ns
-unfolding listed
-listed-most [] = omega arith
-listed-most (n ∷ ns) = omega (arith, length-append (decimal n) (listed ns), decimal-5 n, listed-most ns)
-
-numbers-most : (n : ℕ) (ns : List ℕ) → length (numbersText (n ∷ ns)) ≤ 6 * length (n ∷ ns)
-numbers-most n ns =
-    omega (arith, ap length (cons-text n ns), length-append (decimal n) (listed ns ++ (newline ∷ [])), length-append (listed ns) (newline ∷ []), decimal-5 n, listed-most ns)
-
-refusal-most : (number line : ℕ) → length (refusalText number line) ≤ 20
-unfolding refusalText
-refusal-most number line = omega (arith, numbers-most number (line ∷ []))
 
 -- ---- what is printed
 
@@ -123,38 +104,6 @@ pub trace-most-bytes : (input : List ℕ) → length (tracePrints input) ≤ tra
 trace-most-bytes input =
     rw (trace-prints input) (printed-most (λ p. lineRun (expand neighbours p)) traceBytes (omega arith) (λ p A. trace-most (expand neighbours p) traceBudget 0 _) input)
 
--- ---- the verdict
-
-balanced-most : (n : ℕ) → length (balancedText n) ≤ verdictBytes
-unfolding balancedText
-balanced-most n = omega (arith, numbers-most n [])
-
-spent-most : (n : ℕ) → length (spentText n) ≤ verdictBytes
-unfolding spentText
-spent-most n = omega (arith, numbers-most n [])
-
-leak-most : (n : ℕ) → length (leakText n) ≤ verdictBytes
-unfolding leakText
-leak-most n = omega (arith, numbers-most n [])
-
-verdict-line-most : (r : Report) → length (verdictText r) ≤ verdictBytes
-unfolding verdictText
-verdict-line-most (refused k l) = refusal-most k l
-verdict-line-most (done values) = go (eqb (getD values 0 0) 0) (eqb (getD values 0 0) 1) (getD values 2 0) (getD values 1 0)
-  where
-    go : (x y : Bool) (n m : ℕ) → length (cond x (balancedText n) (cond y (spentText n) (leakText m))) ≤ verdictBytes
-    go true y n m = balanced-most n
-    go false true n m = spent-most n
-    go false false n m = leak-most m
-
-pub verdict-most-bytes : (input : List ℕ) → length (verdictPrints input) ≤ verdictBytes
-verdict-most-bytes input = rw (verdict-prints input) (by (ltb verdictSize (length input)) (readInput input .answer) (verdictReport (readInput input .stored) imageSets verdictBudget))
-  where
-    by : (long : Bool) (r v : Report) → length (cond long (orRefusal (refused 8 0) []) (orRefusal r (verdictText v))) ≤ verdictBytes
-    by true r v = refusal-most 8 0
-    by false (refused k l) v = refusal-most k l
-    by false (done vs) v = verdict-line-most v
-
 -- ---- so the programs' stores always have room
 
 pub expansion-prints-all : (input out : List ℕ) → expansionBytes ≤ length out → fitted (expandPrints input) out ≡ outcome (counted (length (expandPrints input))) (atFront (expandPrints input) out ∷ [])
@@ -162,6 +111,3 @@ expansion-prints-all input out h = sym (all-fits (expandPrints input) out (omega
 
 pub trace-prints-all : (input out : List ℕ) → traceBytes ≤ length out → fitted (tracePrints input) out ≡ outcome (counted (length (tracePrints input))) (atFront (tracePrints input) out ∷ [])
 trace-prints-all input out h = sym (all-fits (tracePrints input) out (omega (arith, trace-most-bytes input)))
-
-pub verdict-prints-all : (input out : List ℕ) → verdictBytes ≤ length out → fitted (verdictPrints input) out ≡ outcome (counted (length (verdictPrints input))) (atFront (verdictPrints input) out ∷ [])
-verdict-prints-all input out h = sym (all-fits (verdictPrints input) out (omega (arith, verdict-most-bytes input)))

@@ -1,5 +1,3 @@
-pub mod Printing
-pub mod Reading
 pub mod Loading
 pub mod Running
-pub mod Verdicts
+pub mod Sizes

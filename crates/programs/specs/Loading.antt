@@ -7,22 +7,17 @@ use lib.Dec.{ltb}
 use lib.ListN.{length}
 use Rattle.model.specs.Layouts.{neighbours}
 use Rattle.model.specs.declared.Line.{Line}
-use Rattle.model.specs.Limits.{lineWidth, longest, maxAccepted, maxLines}
+use Rattle.model.specs.Limits.{lineWidth, longest, maxAccepted}
 use Rattle.model.specs.Answers.{Report, counted, refused, Outcome, outcome, andThen, unlessRefused, atFront}
 use Rattle.model.specs.Stored.{codes, lines}
-use Rattle.model.specs.Text.{Reading, reading}
 use Rattle.model.specs.Marks.{markCheck}
 use Rattle.model.specs.Expansion.{expand}
 use Rattle.model.specs.Programs.{inputSize}
+use Rattle.lines.specs.Reading.{readInput}
 
 -- the numbers of the longest expansion
 abbrev pub mostNumbers : ℕ
 mostNumbers = lineWidth * (longest * maxAccepted)
-
--- the input read, with room for every line
-unfoldable pub readInput : List ℕ → Reading
-unfolding reading
-readInput input = reading maxLines 0 maxLines input
 
 -- the lines of the expansion, where nothing is refused
 unfoldable pub expansionOf : List ℕ → List Line

@@ -9,7 +9,7 @@ use Rattle.model.specs.Stored.{lines}
 use Rattle.model.specs.Run.{run}
 use Rattle.model.specs.Images.{image}
 use Rattle.model.specs.Programs.{traceBudget, traceText}
-use Rattle.programs.specs.Printing.{linesText}
+use Rattle.lines.specs.Printing.{linesText}
 
 -- the trace of a stored program's run from the image of the all-zero state
 unfoldable pub runText : List ℕ → List ℕ

@@ -1,6 +1,5 @@
 // 'The two programs' of document 01: what they print of the bytes on standard input, written to a lent store, the expansion of the
-// program that the bytes are, and the trace of its run. reader.rt reads the lines of a text, lines.rt prints
-// lines of numbers; verdict.rt has what the third program prints.
+// program that the bytes are, and the trace of its run. The crate `lines` reads the lines of a text and prints lines of numbers.
 ghost use mathlib.Core.Path.{_≡_};
 ghost use mathlib.Core.List.{[], _∷_};
 ghost use Prim.Native.Nat.{_*_, _≤_};
@@ -8,22 +7,19 @@ ghost use lib.ListN.{length};
 ghost use Rattle.model.specs.Answers.{report, outcome, counted};
 ghost use Rattle.model.specs.Limits.{lineWidth, rowWidth};
 ghost use Rattle.model.specs.Stored.{lineCount, programCheck};
-ghost use Rattle.model.specs.Programs.{orRefusal, inputSize, expandPrints, tracePrints, traceBudget};
+ghost use Rattle.model.specs.Programs.{inputSize, expandPrints, tracePrints, traceBudget};
 ghost use Rattle.model.specs.Text.{fitted};
 ghost use Rattle.programs.specs.Loading.{loadOutcome, mostNumbers};
 ghost use Rattle.programs.specs.Running.{runText, endedText};
-use crate::lines::write_lines;
-use crate::reader::read_lines;
+use lines::reader::read_lines;
+use lines::write_lines;
+use lines::write_refusal;
 use model::Answer;
 use model::LINE_WIDTH;
 use model::LONGEST;
 use model::MAX_ACCEPTED;
 use model::ROW_WIDTH;
 use model::STATE_SIZE;
-
-mod lines;
-mod reader;
-pub mod verdict;
 
 // The most bytes of an input.
 pub const INPUT_SIZE: usize = 4096;
@@ -79,28 +75,6 @@ fn load(input: &[u8], listing: &mut [u16]) -> Answer
     };
     let end = LINE_WIDTH * (n as usize);
     expander::expand(0, 0, &store[..end], listing)
-}
-
-// Writes the line of a refusal; nothing for another answer.
-pub(crate) fn write_refusal(answer: Answer, out: &mut [u8]) -> Answer
-    ensures { λ r. ⌜ outcome (report r) (now (out .exit) ∷ []) ≡ fitted (orRefusal (report answer) []) (now (out .entry)) ⌝ }
-{
-    match answer {
-        Answer::Refused { number, line } => {
-            let rows = [0u16; 1];
-            let last = [number as u16, line];
-            write_lines(&rows[..0], b"refused,", &last, out)
-        }
-        Answer::Count(_) => Answer::Count(0),
-        Answer::Halted {
-            counter: _,
-            steps: _,
-        } => Answer::Count(0),
-        Answer::Spent {
-            counter: _,
-            steps: _,
-        } => Answer::Count(0),
-    }
 }
 
 // Writes the rows of the steps done, and the line of the ending.

@@ -1,7 +1,7 @@
 -- `expand::output_room` meets its contract: the length of an array of one value, which is not counted. Assumes nothing.
 use Prim.Native.Nat.{ℕ}
 use lib.ListN.{length-replicate}
-use Rattle.programs.specs.Printing.{expansionBytes}
+use Rattle.programs.specs.Sizes.{expansionBytes}
 use Rattle.expand.proofs.output_room.Statement.{statement}
 use Rattle.expand.proofs.output_room.Tie as tie
 

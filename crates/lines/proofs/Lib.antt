@@ -1,0 +1,5 @@
+pub mod LeftLaws
+pub mod LineTexts
+pub mod ReaderLaws
+pub mod ReaderParts
+pub mod InputLaws

@@ -1,0 +1,3 @@
+pub mod VerdictSets
+pub mod VerdictTexts
+pub mod VerdictSizes
