@@ -14,8 +14,8 @@ use Rattle.model.specs.Expansion.{part, size, start, joined}
 use Rattle.model.proofs.Parts.{part-size, start-suc}
 use Rattle.model.proofs.StoredLaws.{drop-line, get-line, length-lines}
 use Rattle.model.proofs.ExpansionLaws.{start-within}
-use Rattle.expander.specs.Writes.{put, Wrote}
-use Rattle.expander.proofs.StoreWrites.{wrote-none, wrote-then}
+use Rattle.pieces.specs.Writes.{put, Wrote}
+use Rattle.pieces.proofs.StoreWrites.{wrote-none, wrote-then}
 
 joined-next : (L : Layout) (f : ℕ → ℕ) (p r : List Line) (l : Line) (i : ℕ) → drop i p ≡ l ∷ r → joined L f (take (suc i) p) ≡ joined L f (take i p) ++ part L f l
 unfolding joined

@@ -1,7 +1,4 @@
-pub mod PartNumbers
 pub mod PartSizes
-pub mod StoreWrites
-pub mod PieceWrites
 pub mod StartTable
 pub mod JoinedParts
 pub mod Outcomes

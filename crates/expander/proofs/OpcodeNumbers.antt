@@ -10,7 +10,7 @@ use Rattle.model.specs.declared.Layout.{Layout}
 use Rattle.model.specs.declared.Opcode.{Opcode}
 use Rattle.model.specs.declared.Operand.{Operand}
 use Rattle.model.specs.Stored.{opcodeOf}
-use Rattle.expander.specs.Opcodes.{hasTable, unary}
+use Rattle.pieces.specs.Opcodes.{hasTable, unary}
 
 -- an opcode without a macro
 record Bare (op : Opcode) : Type 0 where

@@ -20,8 +20,8 @@ use Rattle.model.proofs.Acceptance.{accepted-right}
 use Rattle.model.proofs.ExpansionLaws.{expand-length, expansion-most, expansion-correct, mark-accepted}
 use Rattle.model.proofs.CheckAnswers.{mark-answers, NoCount, count-told, handed-on}
 use Rattle.expander.specs.Starts.{lookedUp, Starts, LookedUp}
-use Rattle.expander.specs.Writes.{put}
-use Rattle.expander.proofs.StoreWrites.{stored-correct}
+use Rattle.pieces.specs.Writes.{put}
+use Rattle.pieces.proofs.StoreWrites.{stored-correct}
 use Rattle.expander.proofs.StartTable.{looked-up, starts-last}
 
 -- ---- the expansion of an accepted program

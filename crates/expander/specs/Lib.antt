@@ -1,3 +1,1 @@
-pub mod Opcodes
 pub mod Starts
-pub mod Writes

@@ -1,5 +1,6 @@
 // 'Code, tables, macros' of document 01, the macros: the expansion (23, what the mark check refuses, 17) of stored programs.
-// macros.rt has the lines that a line becomes, starts.rt the starts of the lines' parts, writing.rt the parts in a lent store.
+// The crate `pieces` writes the macros; macros.rt has how long they are, starts.rt the starts of the lines' parts, writing.rt the parts in
+// a lent store.
 ghost use mathlib.Core.Path.{_≡_};
 ghost use mathlib.Core.List.{[], _∷_};
 ghost use Rattle.model.specs.Answers.{report, outcome};

@@ -5,8 +5,7 @@ ghost use lib.ListN.{length};
 ghost use Rattle.model.specs.Stored.{lineCount, lineAt, lines};
 ghost use Rattle.model.specs.Expansion.{part, size, start, joined};
 ghost use Rattle.expander.specs.Starts.{lookedUp};
-ghost use Rattle.expander.specs.Writes.{put, Wrote};
-use super::macros;
+ghost use Rattle.pieces.specs.Writes.{put, Wrote};
 use super::starts;
 use super::starts::STARTS;
 use model::LINE_WIDTH;
@@ -31,16 +30,16 @@ fn put_part(
     if mark == 0 {
         let target = n[5];
         let start = starts::new_target(starts, target);
-        return macros::put_line(out, at, Mark::Unmarked, o, n[2], n[3], n[4], start);
+        return pieces::put_line(out, at, Mark::Unmarked, o, n[2], n[3], n[4], start);
     }
-    macros::put_macro(
+    pieces::put_macro(
         out,
         at,
         layout,
         o,
         n[2],
-        macros::coded(layout, n[3]),
-        macros::coded(layout, n[4]),
+        pieces::coded(layout, n[3]),
+        pieces::coded(layout, n[4]),
     )
 }
 

@@ -3,7 +3,7 @@ use mathlib.Core.Path.{refl, sym, ap, _∙_}
 use lib.ListN.{length}
 use Rattle.model.specs.Stored.{opcodeOf}
 use Rattle.expander.proofs.OpcodeNumbers.{table-number}
-use Rattle.expander.proofs.PieceWrites.{table-macro, unary-macro}
+use Rattle.pieces.proofs.PieceWrites.{table-macro, unary-macro}
 use borrow.Author.Needs.{needs}
 use Rattle.expander.proofs.macros.macro_size.Statement.{statement}
 use Rattle.expander.proofs.macros.macro_size.Tie as tie

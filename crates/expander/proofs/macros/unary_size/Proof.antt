@@ -7,7 +7,7 @@ use Rattle.model.specs.Stored.{operandOf}
 use Rattle.model.specs.Expansion.{coded, flip, writeBack}
 use Rattle.model.proofs.Loads.{load-bounds}
 use Rattle.model.proofs.Lengths.{negate-pieces, copy-pieces}
-use Rattle.expander.specs.Opcodes.{unary}
+use Rattle.pieces.specs.Opcodes.{unary}
 use Rattle.expander.proofs.OpcodeNumbers.{unary-number}
 use borrow.Author.Needs.{needs}
 use Rattle.expander.proofs.macros.unary_size.Statement.{statement}

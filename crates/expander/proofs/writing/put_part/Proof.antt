@@ -1,8 +1,7 @@
 -- `expander::writing::put_part` meets its contract. By the line's mark. Assumes nothing.
 use native.Mathlib.Omega.{arith}
 use Rattle.expander.specs.Starts.{lookedUp}
-use Rattle.expander.proofs.PartSizes.{plain-length, marked-length}
-use Rattle.expander.proofs.PieceWrites.{plain-wrote, marked-wrote}
+use Rattle.expander.proofs.PartSizes.{plain-length, marked-length, plain-wrote, marked-wrote}
 use borrow.Author.Needs.{needs}
 use Rattle.expander.proofs.writing.put_part.Statement.{statement}
 use Rattle.expander.proofs.writing.put_part.Tie as tie

@@ -6,7 +6,7 @@ use borrow.Author.Needs.{needs}
 use Rattle.model.specs.Stored.{lines}
 use Rattle.model.specs.Expansion.{joined}
 use Rattle.expander.specs.Starts.{lookedUp}
-use Rattle.expander.specs.Writes.{Wrote}
+use Rattle.pieces.specs.Writes.{Wrote}
 use Rattle.expander.proofs.JoinedParts.{no-parts, next-part, part-room, all-parts}
 use Rattle.expander.proofs.writing.put_parts.Statement.{statement}
 use Rattle.expander.proofs.writing.put_parts.Tie as tie

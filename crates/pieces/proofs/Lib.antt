@@ -1,0 +1,3 @@
+pub mod PartNumbers
+pub mod StoreWrites
+pub mod PieceWrites
