@@ -1,4 +1,4 @@
--- `walk::base_of` meets its contract, form by form: the tests are those that decode the number. Assumes nothing.
+-- `choices::base_of` meets its contract, form by form: the tests are those that decode the number. Assumes nothing.
 use mathlib.Core.Path.{_≡_, refl, sym}
 use Prim.Native.Nat.{ℕ, _<_}
 use native.Mathlib.Omega.{arith}

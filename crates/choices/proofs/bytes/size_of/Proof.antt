@@ -1,4 +1,4 @@
--- `walk::size_of` meets its contract. Assumes nothing.
+-- `choices::bytes::size_of` meets its contract. Assumes nothing.
 use mathlib.Core.Path.{sym, ap}
 use Prim.Native.Nat.{_*_}
 use native.Mathlib.Omega.{arith}

@@ -1,4 +1,4 @@
--- `walk::value_of` meets its contract. Assumes nothing.
+-- `choices::bytes::value_of` meets its contract. Assumes nothing.
 use mathlib.Core.Path.{_≡_, sym, ap, _∙_}
 use mathlib.Core.List.{List, [], _∷_}
 use Prim.Native.Nat.{ℕ, _<_}
