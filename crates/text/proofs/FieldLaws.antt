@@ -3,15 +3,15 @@ use Prim.Native.Nat.{ℕ, _+_, _*_, _<_}
 use mathlib.Core.Bool.{Bool, true, false, cond, _&&_}
 use mathlib.Core.Path.{_≡_, refl, sym, ap, _∙_}
 use mathlib.Core.List.{List, [], _∷_}
-use mathlib.Core.Option.{none, some}
+use mathlib.Core.Option.{Option, none, some}
 use native.Mathlib.Omega.{arith}
 use lib.Dec.{T, eqb, ltb}
 use lib.ListN.{length, getD}
 use borrow.Author.Tests.{eq-eqb, ne-eqb, eqb-true, eqb-false}
 use Rattle.model.specs.Stored.{opcodeOf, noLiteral}
-use Rattle.model.specs.Text.{sameBytes, spelledFrom, spellMark, spellOpcode, markField}
+use Rattle.model.specs.Text.{sameBytes, spelledFrom, spellMark, spellOpcode, markField, opcodeField}
 use Rattle.model.proofs.TestLaws.{is-true, allBelow, all-below}
-use Rattle.model.proofs.SpellingLaws.{same-bytes}
+use Rattle.model.proofs.SpellingLaws.{same-bytes, opcode-exactly, opcode-3}
 use Rattle.coding.proofs.Faults.{literal-number}
 
 eqb-swap : (a b : ℕ) → eqb a b ≡ eqb b a
@@ -56,18 +56,27 @@ pub opcode-letters : (k : ℕ) → k < 13 → spellOpcode (opcodeOf k) ≡ lette
 opcode-letters k h =
     same-bytes (spellOpcode (opcodeOf k)) (lettersAt k) (is-true _ (all-below (λ n. sameBytes (spellOpcode (opcodeOf n)) (lettersAt n)) 13 k all-spelled h))
 
-pub three : (a b c : ℕ) (s : List ℕ)
-    → sameBytes (a ∷ b ∷ c ∷ []) s ≡ cond (eqb (length s) 3) (cond (eqb (getD s 0 0) a) (cond (eqb (getD s 1 0) b) (eqb (getD s 2 0) c) false) false) false
-three a b c [] = refl
-three a b c (x ∷ []) = rw (and-false (eqb a x), ne-eqb (length (x ∷ [])) 3 (λ e. omega arith))
-three a b c (x ∷ y ∷ []) = rw (and-false (eqb b y), and-false (eqb a x), ne-eqb (length (x ∷ y ∷ [])) 3 (λ e. omega arith))
-three a b c (x ∷ y ∷ z ∷ []) = rw (and-true (eqb c z), eqb-swap a x, eqb-swap b y, eqb-swap c z) (conds (eqb x a) (eqb y b) (eqb z c))
+pub same-letters : (x y z a b c : ℕ) → sameBytes (x ∷ y ∷ z ∷ []) (a ∷ b ∷ c ∷ []) ≡ cond (eqb a x) (cond (eqb b y) (eqb c z) false) false
+same-letters x y z a b c = rw (and-true (eqb z c), eqb-swap x a, eqb-swap y b, eqb-swap z c) (conds (eqb a x) (eqb b y) (eqb c z))
   where
     conds : (t u v : Bool) → (t && (u && v)) ≡ cond t (cond u v false) false
     conds true true v = refl
     conds true false v = refl
     conds false u v = refl
-three a b c (x ∷ y ∷ z ∷ w ∷ s) = rw (and-false (eqb c z), and-false (eqb b y), and-false (eqb a x), ne-eqb (length (x ∷ y ∷ z ∷ w ∷ s)) 3 (λ e. omega arith))
+
+pub three-letters : (s : List ℕ) → length s ≡ 3 → getD s 0 0 ∷ getD s 1 0 ∷ getD s 2 0 ∷ [] ≡ s
+three-letters [] e = absurd (omega arith)
+three-letters (x ∷ []) e = absurd (omega arith)
+three-letters (x ∷ y ∷ []) e = absurd (omega arith)
+three-letters (x ∷ y ∷ z ∷ []) e = refl
+three-letters (x ∷ y ∷ z ∷ w ∷ s) e = absurd (omega arith)
+
+pub no-name : (s : List ℕ) → (length s ≡ 3 → ⊥) → none ≡ opcodeField s .number
+no-name s h = by (opcodeField s .number) refl
+  where
+    by : (n : Option ℕ) → opcodeField s .number ≡ n → none ≡ n
+    by none e = refl
+    by (some k) e = absurd (h (ap length (sym (opcode-exactly s k .0 e .1)) ∙ opcode-3 (opcodeOf k)))
 
 -- ---- a literal is no destination
 

@@ -97,6 +97,33 @@ spell-model {k} (table b n hb hn e) =
     let o : (k - 8993) % 256 ≡ n = omega arith in
     rw (le-ltb k 1 (omega arith), le-ltb k 257 (omega arith), le-ltb k 289 (omega arith), le-ltb k 801 (omega arith), le-ltb k 4897 (omega arith), le-ltb k 8993 (omega arith), m, o)
 
+-- the spelling of each form of operand, by its number
+module _ (k : ℕ) where
+  pub literal-form : 1 ≤ k → k < 1 + 256 → spellOperand (operandOf k) ≡ 35 ∷ decimal (k - 1)
+  unfolding spell
+  literal-form l h = spell-model (literal (k - 1) (omega arith) (omega arith))
+
+  pub register-form : 257 ≤ k → k < 257 + 32 → spellOperand (operandOf k) ≡ 114 ∷ decimal (k - 257)
+  unfolding spell
+  register-form l h = spell-model (register (k - 257) (omega arith) (omega arith))
+
+  pub cell-form : 289 ≤ k → k < 289 + 512 → spellOperand (operandOf k) ≡ 64 ∷ decimal (k - 289)
+  unfolding spell
+  cell-form l h = spell-model (cell (k - 289) (omega arith) (omega arith))
+
+module _ (b n : ℕ) (h : b < 32) where
+  pub public-form : n < 128 → spellOperand (operandOf (801 + (128 * b + n))) ≡ 33 ∷ based b n
+  unfolding spell
+  public-form l = spell-model (public b n h l refl)
+
+  pub sensitive-form : n < 128 → spellOperand (operandOf (4897 + (128 * b + n))) ≡ 37 ∷ based b n
+  unfolding spell
+  sensitive-form l = spell-model (sensitive b n h l refl)
+
+  pub table-form : n < 256 → spellOperand (operandOf (8993 + (256 * b + n))) ≡ 94 ∷ based b n
+  unfolding spell
+  table-form l = spell-model (table b n h l refl)
+
 range : (k : ℕ) → k < operands → Range k
 range k h =
     below k 1 (λ a. empty (omega arith)) (λ a.

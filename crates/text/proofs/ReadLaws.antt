@@ -57,6 +57,10 @@ pub left-first : (text old : List ℕ) → Left text old old text (length old / 
 left-first text old = record { few = omega arith; long = refl; room-is = refl; answer = refl; stored = refl }
 
 module _ (text old store rest : List ℕ) (room n : ℕ) (l : Left text old store rest room n) where
+  -- what left the store as it was
+  pub left-same : (new : List ℕ) → new ≡ store → Left text old new rest room n
+  left-same new e = rw e l
+
   -- the reading ends here
   left-ends : (r : Report) → reading (maxLines - n) n room rest ≡ ends r → outcome r (store ∷ []) ≡ readOutcome text old
   left-ends r e =

@@ -6,7 +6,7 @@ use mathlib.Core.Option.{Option, none, some}
 use Prim.Native.Nat.{ℕ, _+_, _-_, _*_}
 use lib.Dec.{ltb, leb, eqb}
 use lib.ListN.{length, getD, drop}
-use Rattle.model.specs.Stored.{literals, registers, cells, publics, sensitives, tables}
+use Rattle.model.specs.Stored.{opcodes, literals, registers, cells, publics, sensitives, tables}
 use Rattle.model.specs.Text.{upTo, past}
 use Rattle.text.specs.declared.Field.{Field}
 use Rattle.text.specs.declared.Field.the-variants.{Is, Wrong}
@@ -15,6 +15,10 @@ use Rattle.text.specs.declared.Field.the-variants.{Is, Wrong}
 abbrev pub found : Field → Option ℕ
 found (Is k) = some k
 found Wrong = none
+
+-- the number of an opcode, 13 for none
+abbrev pub opcodeFound : ℕ → Option ℕ
+opcodeFound k = cond (ltb k opcodes) (some k) none
 
 -- the number that the digits s add to the digits of v, while it stays below n
 unfoldable pub digitsFrom : ℕ → ℕ → List ℕ → Field

@@ -4,12 +4,13 @@ ghost use mathlib.Core.List.{[], _∷_};
 ghost use Prim.Native.Nat.{_+_, _≤_, _<_};
 ghost use Rattle.model.specs.Stored.{opcodeOf, noLiteral};
 ghost use Rattle.model.specs.Text.{sameBytes, spelledFrom, spellOpcode, markField, opcodeField, operandField, targetField};
-ghost use Rattle.text.specs.Fields.{found, digitsFrom, readNumber, shift, readIndirect, readKind};
+ghost use Rattle.text.specs.Fields.{found, opcodeFound, digitsFrom, readNumber, shift, readIndirect, readKind};
 use crate::Field;
 use crate::cut::beyond;
 use crate::cut::find;
 use coding::CELLS;
 use coding::LITERALS;
+use coding::OPCODES;
 use coding::PUBLICS;
 use coding::REGISTERS;
 use coding::SENSITIVES;
@@ -75,76 +76,84 @@ pub(crate) fn mark(s: &[u8]) -> Field
     Field::Wrong
 }
 
-// Is s the three letters?
-fn is_named(s: &[u8], a: u8, b: u8, c: u8) -> bool
-    ensures { λ r. ⌜ r ≡ sameBytes (a ∷ b ∷ c ∷ []) (now (s .entry)) ⌝ }
+// Are the letters a, b, c those of a name?
+fn is_named(a: u8, b: u8, c: u8, x: u8, y: u8, z: u8) -> bool
+    ensures { λ r. ⌜ r ≡ sameBytes (x ∷ y ∷ z ∷ []) (a ∷ b ∷ c ∷ []) ⌝ }
 {
-    if s.len() != 3 {
+    if a != x {
         return false;
     }
-    if s[0] != a {
+    if b != y {
         return false;
     }
-    if s[1] != b {
-        return false;
-    }
-    if s[2] != c {
-        return false;
-    }
-    true
+    c == z
 }
 
-// The number of the opcode that s names, from the shifts on.
-fn later_opcode(s: &[u8]) -> Field
-    ensures { λ r. ⌜ found r ≡ spelledFrom (λ n. spellOpcode (opcodeOf n)) 7 6 (now (s .entry)) ⌝ }
+// The number of the opcode that three letters name, from the shifts on; 13 where they name none.
+fn later_name(a: u8, b: u8, c: u8) -> u16
+    ensures { λ r. ⌜ opcodeFound r ≡ spelledFrom (λ n. spellOpcode (opcodeOf n)) 7 6 (a ∷ b ∷ c ∷ []) ⌝ }
 {
-    if is_named(s, b'l', b's', b'l') {
-        return Field::Is(7);
+    if is_named(a, b, c, b'l', b's', b'l') {
+        return 7;
     }
-    if is_named(s, b'l', b's', b'r') {
-        return Field::Is(8);
+    if is_named(a, b, c, b'l', b's', b'r') {
+        return 8;
     }
-    if is_named(s, b'a', b'd', b'd') {
-        return Field::Is(9);
+    if is_named(a, b, c, b'a', b'd', b'd') {
+        return 9;
     }
-    if is_named(s, b'm', b'u', b'l') {
-        return Field::Is(10);
+    if is_named(a, b, c, b'm', b'u', b'l') {
+        return 10;
     }
-    if is_named(s, b'b', b'e', b'q') {
-        return Field::Is(11);
+    if is_named(a, b, c, b'b', b'e', b'q') {
+        return 11;
     }
-    if is_named(s, b'b', b'n', b'e') {
-        return Field::Is(12);
+    if is_named(a, b, c, b'b', b'n', b'e') {
+        return 12;
     }
-    Field::Wrong
+    OPCODES
+}
+
+// The number of the opcode that three letters name; 13 where they name none.
+fn name(a: u8, b: u8, c: u8) -> u16
+    ensures { λ r. ⌜ opcodeFound r ≡ opcodeField (a ∷ b ∷ c ∷ []) .number ⌝ }
+{
+    if is_named(a, b, c, b'n', b'o', b'p') {
+        return 0;
+    }
+    if is_named(a, b, c, b'j', b'm', b'p') {
+        return 1;
+    }
+    if is_named(a, b, c, b'n', b'o', b't') {
+        return 2;
+    }
+    if is_named(a, b, c, b'm', b'o', b'v') {
+        return 3;
+    }
+    if is_named(a, b, c, b'a', b'n', b'd') {
+        return 4;
+    }
+    if is_named(a, b, c, b'o', b'r', b'r') {
+        return 5;
+    }
+    if is_named(a, b, c, b'x', b'o', b'r') {
+        return 6;
+    }
+    later_name(a, b, c)
 }
 
 // The number of the opcode that s names.
 pub(crate) fn opcode(s: &[u8]) -> Field
     ensures { λ r. ⌜ found r ≡ opcodeField (now (s .entry)) .number ⌝ }
 {
-    if is_named(s, b'n', b'o', b'p') {
-        return Field::Is(0);
+    if s.len() != 3 {
+        return Field::Wrong;
     }
-    if is_named(s, b'j', b'm', b'p') {
-        return Field::Is(1);
+    let k = name(s[0], s[1], s[2]);
+    if k < OPCODES {
+        return Field::Is(k);
     }
-    if is_named(s, b'n', b'o', b't') {
-        return Field::Is(2);
-    }
-    if is_named(s, b'm', b'o', b'v') {
-        return Field::Is(3);
-    }
-    if is_named(s, b'a', b'n', b'd') {
-        return Field::Is(4);
-    }
-    if is_named(s, b'o', b'r', b'r') {
-        return Field::Is(5);
-    }
-    if is_named(s, b'x', b'o', b'r') {
-        return Field::Is(6);
-    }
-    later_opcode(s)
+    Field::Wrong
 }
 
 // A number below n, and more.

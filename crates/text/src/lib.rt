@@ -16,6 +16,7 @@ pub mod cut;
 mod fields;
 pub mod line;
 pub mod printing;
+mod scanning;
 mod size;
 
 use crate::cut::beyond;
@@ -23,6 +24,7 @@ use crate::cut::find;
 use crate::line::front;
 use crate::line::refusal;
 use crate::printing::put_line;
+use crate::scanning::take;
 use crate::size::text_size;
 use coding::check_program;
 use coding::numbers_at;
@@ -65,7 +67,7 @@ pub fn front_at(text: &[u8], at: usize) -> Parsed
 }
 
 // Stores the numbers of a line from an index on.
-fn keep(store: &mut [u16], at: usize, l: Stored)
+pub(crate) fn keep(store: &mut [u16], at: usize, l: Stored)
     requires { ⌜ at + 6 ≤ length (now store) ⌝ }
     ensures { λ _. ⌜ now (store .exit) ≡ sets (now (store .entry)) at (numbersOf l) ⌝ }
 {
@@ -86,7 +88,8 @@ pub fn keep_at(store: &mut [u16], n: usize, l: Stored)
     }
 }
 
-// Reads the lines of a text into a store. Each line is read from the front, and the rest of the text is handed on as a part.
+// Reads the lines of a text into a store. Each line is read from the front, and the rest of the text is handed on as a part. A correct
+// line is taken in one pass; of any other `front` says which condition holds.
 pub fn read(text: &[u8], store: &mut [u16]) -> Answer
     ensures { λ r. ⌜ outcome (report r) (now (store .exit) ∷ []) ≡ readOutcome (now (text .entry)) (now (store .entry)) ⌝ }
 {
@@ -106,18 +109,25 @@ pub fn read(text: &[u8], store: &mut [u16]) -> Answer
                 line: n as u16,
             };
         }
-        let end = find(rest, b'\n');
-        let got = front(rest, end);
-        let Parsed::Line(l) = got else {
-            return Answer::Refused {
-                number: refusal(got),
-                line: n as u16,
+        let bytes = take(rest, store, LINE_WIDTH * n);
+        if 0 < bytes {
+            let next = beyond(rest, bytes - 1);
+            rest = next;
+            n += 1;
+        } else {
+            let end = find(rest, b'\n');
+            let got = front(rest, end);
+            let Parsed::Line(l) = got else {
+                return Answer::Refused {
+                    number: refusal(got),
+                    line: n as u16,
+                };
             };
-        };
-        keep(store, LINE_WIDTH * n, l);
-        let next = beyond(rest, end);
-        rest = next;
-        n += 1;
+            keep(store, LINE_WIDTH * n, l);
+            let next = beyond(rest, end);
+            rest = next;
+            n += 1;
+        }
     }
     Answer::Count(n as u32)
 }

@@ -17,7 +17,7 @@ use crate::fields::operand;
 use crate::fields::target;
 
 // The first bytes of a line among which its newline must be.
-const LINE_REACH: usize = 41;
+pub(crate) const LINE_REACH: usize = 41;
 
 // The six fields: 3 mark, 4 opcode, 5 which fields are filled, 6 operands and target.
 fn fields(m: &[u8], o: &[u8], d: &[u8], a: &[u8], b: &[u8], t: &[u8]) -> Parsed

@@ -1,9 +1,9 @@
--- `text::fields::later_opcode` meets its contract: the tests are those of the model's search. Assumes nothing.
+-- `text::fields::name` meets its contract: the tests are those of the model's search. Assumes nothing.
 use mathlib.Core.Path.{sym, _∙_}
 use borrow.Author.Needs.{needs}
 use Rattle.model.specs.Text.{spelledFrom, spellOpcode}
-use Rattle.text.proofs.fields.later_opcode.Statement.{statement}
-use Rattle.text.proofs.fields.later_opcode.Tie as tie
+use Rattle.text.proofs.fields.name.Statement.{statement}
+use Rattle.text.proofs.fields.name.Tie as tie
 
 is-named-requires : tie.Need-is-named-requires
 is-named-requires c κs = search needs
@@ -47,12 +47,22 @@ returns-6 : tie.Need-returns-6
 unfolding spelledFrom spellOpcode
 returns-6 c = rw (sym (c .before .before .before .before .before .before .before .before .before .before .before .is-named .ensures) ∙ c .before .before .before .before .before .before .before .before .before .before .if1 .left, sym (c .before .before .before .before .before .before .before .before .before .is-named2 .ensures) ∙ c .before .before .before .before .before .before .before .before .if2 .left, sym (c .before .before .before .before .before .before .before .is-named3 .ensures) ∙ c .before .before .before .before .before .before .if3 .left, sym (c .before .before .before .before .before .is-named4 .ensures) ∙ c .before .before .before .before .if4 .left, sym (c .before .before .before .is-named5 .ensures) ∙ c .before .before .if5 .left, sym (c .before .is-named6 .ensures) ∙ c .if6 .taken)
 
+is-named-requires-7 : tie.Need-is-named-requires-7
+is-named-requires-7 c κs = search needs
+
 returns-7 : tie.Need-returns-7
 unfolding spelledFrom spellOpcode
-returns-7 c = rw (sym (c .before .before .before .before .before .before .before .before .before .before .before .is-named .ensures) ∙ c .before .before .before .before .before .before .before .before .before .before .if1 .left, sym (c .before .before .before .before .before .before .before .before .before .is-named2 .ensures) ∙ c .before .before .before .before .before .before .before .before .if2 .left, sym (c .before .before .before .before .before .before .before .is-named3 .ensures) ∙ c .before .before .before .before .before .before .if3 .left, sym (c .before .before .before .before .before .is-named4 .ensures) ∙ c .before .before .before .before .if4 .left, sym (c .before .before .before .is-named5 .ensures) ∙ c .before .before .if5 .left, sym (c .before .is-named6 .ensures) ∙ c .if6 .left)
+returns-7 c = rw (sym (c .before .before .before .before .before .before .before .before .before .before .before .before .before .is-named .ensures) ∙ c .before .before .before .before .before .before .before .before .before .before .before .before .if1 .left, sym (c .before .before .before .before .before .before .before .before .before .before .before .is-named2 .ensures) ∙ c .before .before .before .before .before .before .before .before .before .before .if2 .left, sym (c .before .before .before .before .before .before .before .before .before .is-named3 .ensures) ∙ c .before .before .before .before .before .before .before .before .if3 .left, sym (c .before .before .before .before .before .before .before .is-named4 .ensures) ∙ c .before .before .before .before .before .before .if4 .left, sym (c .before .before .before .before .before .is-named5 .ensures) ∙ c .before .before .before .before .if5 .left, sym (c .before .before .before .is-named6 .ensures) ∙ c .before .before .if6 .left, sym (c .before .is-named7 .ensures) ∙ c .if7 .taken)
 
-pub later-opcode-spec : {M : Type 1} → statement M
-later-opcode-spec =
+later-name-requires : tie.Need-later-name-requires
+later-name-requires c κs = search needs
+
+returns-8 : tie.Need-returns-8
+unfolding spelledFrom spellOpcode
+returns-8 c = rw (sym (c .before .before .before .before .before .before .before .before .before .before .before .before .before .before .is-named .ensures) ∙ c .before .before .before .before .before .before .before .before .before .before .before .before .before .if1 .left, sym (c .before .before .before .before .before .before .before .before .before .before .before .before .is-named2 .ensures) ∙ c .before .before .before .before .before .before .before .before .before .before .before .if2 .left, sym (c .before .before .before .before .before .before .before .before .before .before .is-named3 .ensures) ∙ c .before .before .before .before .before .before .before .before .before .if3 .left, sym (c .before .before .before .before .before .before .before .before .is-named4 .ensures) ∙ c .before .before .before .before .before .before .before .if4 .left, sym (c .before .before .before .before .before .before .is-named5 .ensures) ∙ c .before .before .before .before .before .if5 .left, sym (c .before .before .before .before .is-named6 .ensures) ∙ c .before .before .before .if6 .left, sym (c .before .before .is-named7 .ensures) ∙ c .before .if7 .left) (c .later-name .ensures)
+
+pub name-spec : {M : Type 1} → statement M
+name-spec =
     tie.close
     (tie.spec
     is-named-requires
@@ -67,4 +77,7 @@ later-opcode-spec =
     returns-5
     is-named-requires-6
     returns-6
-    returns-7)
+    is-named-requires-7
+    returns-7
+    later-name-requires
+    returns-8)
