@@ -1,17 +1,16 @@
 -- Marks, opcodes and which fields are filled: the tests of the code give what the model's definitions give. Assumes nothing.
-use Prim.Native.Nat.{ℕ, _+_, _*_, _<_}
+use Prim.Native.Nat.{ℕ}
 use mathlib.Core.Bool.{Bool, true, false, cond, _&&_}
 use mathlib.Core.Path.{_≡_, refl, sym, ap, _∙_}
 use mathlib.Core.List.{List, [], _∷_}
 use mathlib.Core.Option.{Option, none, some}
 use native.Mathlib.Omega.{arith}
-use lib.Dec.{T, eqb, ltb}
+use lib.Dec.{eqb, ltb}
 use lib.ListN.{length, getD}
 use borrow.Author.Tests.{eq-eqb, ne-eqb, eqb-true, eqb-false}
 use Rattle.model.specs.Stored.{opcodeOf, noLiteral}
-use Rattle.model.specs.Text.{sameBytes, spelledFrom, spellMark, spellOpcode, markField, opcodeField}
-use Rattle.model.proofs.TestLaws.{is-true, allBelow, all-below}
-use Rattle.model.proofs.SpellingLaws.{same-bytes, opcode-exactly, opcode-3}
+use Rattle.model.specs.Text.{sameBytes, spelledFrom, spellMark, markField, opcodeField}
+use Rattle.model.proofs.SpellingLaws.{opcode-exactly, opcode-3}
 use Rattle.coding.proofs.Faults.{literal-number}
 
 eqb-swap : (a b : ℕ) → eqb a b ≡ eqb b a
@@ -38,23 +37,6 @@ mark-tests (b ∷ []) = rw (and-true (eqb 117 b), and-true (eqb 115 b), eqb-swap
 mark-tests (b ∷ c ∷ s) = rw (and-false (eqb 117 b), and-false (eqb 115 b), ne-eqb (length (b ∷ c ∷ s)) 1 (λ e. omega arith))
 
 -- ---- the opcode
-
--- the letters of the thirteen opcodes, three to each
-abbrev pub letters : List ℕ
-letters =
-    110 ∷ 111 ∷ 112 ∷ 106 ∷ 109 ∷ 112 ∷ 110 ∷ 111 ∷ 116 ∷ 109 ∷ 111 ∷ 118 ∷ 97 ∷ 110 ∷ 100 ∷ 111 ∷ 114 ∷ 114 ∷ 120 ∷ 111 ∷ 114
-    ∷ 108 ∷ 115 ∷ 108 ∷ 108 ∷ 115 ∷ 114 ∷ 97 ∷ 100 ∷ 100 ∷ 109 ∷ 117 ∷ 108 ∷ 98 ∷ 101 ∷ 113 ∷ 98 ∷ 110 ∷ 101 ∷ []
-
-abbrev lettersAt : ℕ → List ℕ
-lettersAt k = getD letters (3 * k) 0 ∷ getD letters (3 * k + 1) 0 ∷ getD letters (3 * k + 2) 0 ∷ []
-
-all-spelled : T (allBelow (λ k. sameBytes (spellOpcode (opcodeOf k)) (lettersAt k)) 13)
-unfolding allBelow spellOpcode
-all-spelled = tt
-
-pub opcode-letters : (k : ℕ) → k < 13 → spellOpcode (opcodeOf k) ≡ lettersAt k
-opcode-letters k h =
-    same-bytes (spellOpcode (opcodeOf k)) (lettersAt k) (is-true _ (all-below (λ n. sameBytes (spellOpcode (opcodeOf n)) (lettersAt n)) 13 k all-spelled h))
 
 pub same-letters : (x y z a b c : ℕ) → sameBytes (x ∷ y ∷ z ∷ []) (a ∷ b ∷ c ∷ []) ≡ cond (eqb a x) (cond (eqb b y) (eqb c z) false) false
 same-letters x y z a b c = rw (and-true (eqb z c), eqb-swap x a, eqb-swap y b, eqb-swap z c) (conds (eqb a x) (eqb b y) (eqb c z))

@@ -1,7 +1,7 @@
 -- Scans put together: a byte and what is scanned after it, and the fields of a line, which then is a correct line's spelling.
 -- Assumes nothing.
 use Prim.Native.Nat.{ℕ, _+_, _-_, _*_, _≤_, _<_}
-use mathlib.Core.Path.{_≡_, refl, sym, ap, ap₂, subst, _∙_}
+use mathlib.Core.Path.{_≡_, refl, sym, ap, ap₂, _∙_}
 use mathlib.Core.List.{List, [], _∷_, _++_, append-assoc}
 use mathlib.Core.Option.{some}
 use native.Mathlib.Omega.{arith}
@@ -17,7 +17,7 @@ use Rattle.model.proofs.DecimalLaws.{decimal-snoc, decimal-digit}
 use Rattle.model.proofs.SpellingLaws.{based, mark-exactly, opcode-exactly}
 use Rattle.model.proofs.StoredLaws.{numbers-back, numbers-correct}
 use Rattle.model.proofs.ReadingLaws.{front-there, past-there}
-use Rattle.text.specs.Scanning.{placeOf, numberOf, Stands, Scanned, NumberThere, Numbered, BaseThere, Based, EndThere, Ended, Rest, Completed, LineThere, Took}
+use Rattle.text.specs.Scanning.{placeOf, numberOf, Stands, Scanned, NumberThere, Numbered, Based, EndThere, Ended, Rest, Completed, LineThere, Took}
 
 -- a byte of the text, and what stands after it
 byte-there : (s : List ℕ) (i : ℕ) (c : ℕ) → i < length s → getD s i 0 ≡ c → drop i s ≡ c ∷ drop (i + 1) s

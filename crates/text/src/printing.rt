@@ -1,16 +1,18 @@
 // The spelling of stored numbers, byte by byte. A byte is written where there is room, so that no function here asks for room.
+ghost use mathlib.Core.Path.{_≡_};
 ghost use mathlib.Core.List.{[], _∷_, _++_};
-ghost use Prim.Native.Nat.{_+_, _<_, _≤_};
+ghost use Prim.Native.Nat.{_+_, _/_, _%_, _<_, _≤_};
 ghost use Rattle.model.specs.Stored.{markOf, opcodeOf, operandOf, targetOf, lineOf};
 ghost use Rattle.model.specs.Text.{comma, newline, digitAt, decimal, indirect, spellMark, spellOpcode, spellOperand, spellTarget, spellLine};
 ghost use Rattle.text.specs.Writing.{Wrote, printable};
 use coding::CELLS;
 use coding::LITERALS;
-use coding::OPCODES;
 use coding::PUBLICS;
 use coding::REGISTERS;
 use coding::SENSITIVES;
 use coding::TABLES;
+use coding::opcode_of;
+use model::Opcode;
 
 // A byte, where there is room.
 pub fn put(out: &mut [u8], at: usize, b: u8) -> usize
@@ -117,16 +119,26 @@ fn put_mark(out: &mut [u8], at: usize, k: u16) -> usize
     put(out, at, b's')
 }
 
-// The name of opcode k.
-fn put_letters(out: &mut [u8], at: usize, k: usize) -> usize
-    requires { ⌜ (at + 3 ≤ printable) × (k < 13) ⌝ }
-    ensures { λ r. ⌜ Wrote (now (out .entry)) (now (out .exit)) at r (spellOpcode (opcodeOf k)) 3 ⌝ }
+// The three letters of opcode k as one number, the first letter highest. A table of names would be copied for each line.
+fn letters(k: u16) -> u32
+    ensures { λ r. ⌜ (r < 16777216) × (spellOpcode (opcodeOf k) ≡ r / 65536 ∷ r / 256 % 256 ∷ r % 256 ∷ []) ⌝ }
 {
-    let names = b"nopjmpnotmovandorrxorlsllsraddmulbeqbne";
-    let i = 3 * k;
-    let a = put(out, at, names[i]);
-    let b = put(out, a, names[i + 1]);
-    put(out, b, names[i + 2])
+    let opcode = opcode_of(k);
+    match opcode {
+        Opcode::Nop => 0x6e6f70,
+        Opcode::Jmp => 0x6a6d70,
+        Opcode::Not => 0x6e6f74,
+        Opcode::Mov => 0x6d6f76,
+        Opcode::And => 0x616e64,
+        Opcode::Orr => 0x6f7272,
+        Opcode::Xor => 0x786f72,
+        Opcode::Lsl => 0x6c736c,
+        Opcode::Lsr => 0x6c7372,
+        Opcode::Add => 0x616464,
+        Opcode::Mul => 0x6d756c,
+        Opcode::Beq => 0x626571,
+        Opcode::Bne => 0x626e65,
+    }
 }
 
 // An opcode's number.
@@ -134,10 +146,10 @@ fn put_opcode(out: &mut [u8], at: usize, k: u16) -> usize
     requires { ⌜ at + 3 ≤ printable ⌝ }
     ensures { λ r. ⌜ Wrote (now (out .entry)) (now (out .exit)) at r (spellOpcode (opcodeOf k)) 3 ⌝ }
 {
-    if k < OPCODES {
-        return put_letters(out, at, k as usize);
-    }
-    put_letters(out, at, 0)
+    let n = letters(k);
+    let a = put(out, at, (n / 65536) as u8);
+    let b = put(out, a, (n / 256 % 256) as u8);
+    put(out, b, (n % 256) as u8)
 }
 
 // A comma and an operand.

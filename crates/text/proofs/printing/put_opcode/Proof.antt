@@ -1,37 +1,47 @@
--- `text::printing::put_opcode` meets its contract: a number that is no opcode's is spelled as the first. Assumes nothing.
-use mathlib.Core.Path.{sym, ap}
+-- `text::printing::put_opcode` meets its contract. Assumes nothing.
+use mathlib.Core.Path.{sym}
 use borrow.Author.Needs.{needs}
-use Rattle.model.specs.Text.{spellOpcode}
-use Rattle.model.proofs.Forms.{opcode-past}
-use Rattle.text.proofs.WroteLaws.{as-text}
+use Rattle.text.proofs.WroteLaws.{then, as-text}
 use Rattle.text.proofs.printing.put_opcode.Statement.{statement}
 use Rattle.text.proofs.printing.put_opcode.Tie as tie
 
-put-letters-requires : tie.Need-put-letters-requires
-put-letters-requires c κs = search needs
+letters-requires : tie.Need-letters-requires
+letters-requires c κs = search needs
+
+cast-put : tie.Need-cast-put
+cast-put c = search needs
+
+put-requires : tie.Need-put-requires
+put-requires c κs = search needs
+
+cast-put-2 : tie.Need-cast-put-2
+cast-put-2 c = search needs
+
+put-requires-2 : tie.Need-put-requires-2
+put-requires-2 c κs = search needs
+
+cast-put-3 : tie.Need-cast-put-3
+cast-put-3 c = search needs
+
+put-requires-3 : tie.Need-put-requires-3
+put-requires-3 c κs = search needs
 
 same-length : tie.Need-same-length
 same-length c = search needs
 
 returns : tie.Need-returns
-returns c = search needs
-
-put-letters-requires-2 : tie.Need-put-letters-requires-2
-put-letters-requires-2 c κs = search needs
-
-same-length-2 : tie.Need-same-length-2
-same-length-2 c = search needs
-
-returns-2 : tie.Need-returns-2
-returns-2 c = as-text (sym (ap spellOpcode (opcode-past (c .before .before .before .before .before .before .args .k) (c .before .before .before .before .if1 .left)))) (c .before .before .put-letters2 .ensures)
+returns c = as-text (sym (c .before .before .before .before .before .before .before .before .before .before .before .before .letters .ensures .1)) (then (c .before .before .before .before .before .before .before .before .before .before .put .ensures) (then (c .before .before .before .before .before .before .put2 .ensures) (c .before .before .put3 .ensures)))
 
 pub put-opcode-spec : {M : Type 1} → statement M
 put-opcode-spec =
     tie.close
     (tie.spec
-    put-letters-requires
+    letters-requires
+    cast-put
+    put-requires
+    cast-put-2
+    put-requires-2
+    cast-put-3
+    put-requires-3
     same-length
-    returns
-    put-letters-requires-2
-    same-length-2
-    returns-2)
+    returns)
