@@ -11,12 +11,13 @@ use borrow.Author.Tests.{lt-ltb, le-ltb}
 use Rattle.model.specs.declared.Answer.{Answer}
 use Rattle.model.specs.Limits.{maxLines}
 use Rattle.model.specs.Answers.{report, refused, counted, outcome, atFront}
-use Rattle.model.specs.Stored.{lineAt, lineCount, linesFrom, programCheck}
+use Rattle.model.specs.Stored.{lineAt, lineCount, linesFrom, lines, programCheck}
 use Rattle.model.specs.Text.{spellLine, textOf, writeOutcome, fitted}
-use Rattle.model.proofs.StoredLaws.{program-checked}
+use Rattle.model.proofs.StoredLaws.{length-lines, program-checked}
 use Rattle.model.proofs.CheckAnswers.{program-answers, NoCount, handed-on}
 use Rattle.text.specs.Writing.{Wrote}
 use Rattle.text.proofs.WroteLaws.{wrote-sets}
+use Rattle.text.proofs.SizeLaws.{spelled-most}
 
 -- the text of m lines from line i on
 abbrev pub textFrom : List ℕ → ℕ → ℕ → List ℕ
@@ -102,3 +103,7 @@ module _ (p out : List ℕ) where
 
     pub write-few : lineCount p ≤ maxLines
     write-few = let c = program-checked p n e in omega arith
+
+    pub write-most : length (textOf p) ≤ 34 * lineCount p
+    unfolding textOf
+    write-most = omega (arith, spelled-most (lines p) (program-checked p n e .all-right), length-lines p)

@@ -1,14 +1,16 @@
 -- How long the model's spellings are. Assumes nothing.
-use Prim.Native.Nat.{ℕ, _+_}
+use Prim.Native.Nat.{ℕ, _+_, _*_, _≤_}
 use mathlib.Core.Bool.{Bool, true, false, cond}
 use mathlib.Core.Path.{_≡_, refl}
-use mathlib.Core.List.{[], _∷_}
+use mathlib.Core.List.{List, [], _∷_, flatMap}
 use native.Mathlib.Omega.{arith}
 use lib.Dec.{ltb}
 use lib.ListN.{length, length-append}
+use Rattle.model.specs.declared.Line.{Line}
+use Rattle.model.specs.Lines.{AllCorrect}
 use Rattle.model.specs.Stored.{markOf, opcodeOf, operandOf, targetOf, lineOf}
 use Rattle.model.specs.Text.{digitAt, decimal, indirect, spellOperand, spellTarget, spellLine}
-use Rattle.model.proofs.SpellingLaws.{mark-1, opcode-3}
+use Rattle.model.proofs.SpellingLaws.{mark-1, opcode-3, line-34}
 
 one-digit : (t : Bool) (d : ℕ) → length (cond t [] (d ∷ [])) ≡ cond t 0 1
 one-digit true d = refl
@@ -31,3 +33,9 @@ pub line-sizes : (m o d a b t : ℕ)
     ≡ 10 + length (spellOperand (operandOf d)) + length (spellOperand (operandOf a)) + length (spellOperand (operandOf b)) + length (spellTarget (targetOf t))
 unfolding spellLine
 line-sizes m o d a b t = simp length-append (omega (arith, mark-1 (markOf m), opcode-3 (opcodeOf o)))
+
+-- the text of correct lines, at the most
+pub spelled-most : (ls : List Line) → AllCorrect ls → length (flatMap spellLine ls) ≤ 34 * length ls
+unfolding flatMap
+spelled-most [] h = omega arith
+spelled-most (l ∷ ls) h = omega (arith, length-append (spellLine l) (flatMap spellLine ls), line-34 l (h .0), spelled-most ls (h .1))

@@ -147,7 +147,11 @@ fn print(program: &[u16], n: usize, out: &mut [u8]) -> usize
     at
 }
 
-// Writes the text of a stored program, whose length is known before a byte is written.
+// The most bytes of a correct line, its newline among them.
+const LONGEST_LINE: usize = 34;
+
+// Writes the text of a stored program. That it fits is known before a byte is written: there is room for as many of the longest lines, or
+// the text's bytes are counted.
 pub fn write(program: &[u16], out: &mut [u8]) -> Answer
     ensures { λ r. ⌜ outcome (report r) (now (out .exit) ∷ []) ≡ writeOutcome (now (program .entry)) (now (out .entry)) ⌝ }
 {
@@ -156,7 +160,10 @@ pub fn write(program: &[u16], out: &mut [u8]) -> Answer
         return checked;
     };
     let n = program.len() / LINE_WIDTH;
-    let size = text_size(program, n);
+    let mut size: usize = 0;
+    if out.len() < LONGEST_LINE * n {
+        size = text_size(program, n);
+    }
     if out.len() < size {
         return Answer::Refused {
             number: 17,
