@@ -1,5 +1,5 @@
 // 'Code, tables, macros' of document 01, the macros: the expansion (23, what the mark check refuses, 17) of stored programs.
-// The crate `pieces` writes the macros; macros.rt has how long they are, starts.rt the starts of the lines' parts, writing.rt the parts in
+// The crate `pieces` writes the macros; sizes.rt has how long they are, starts.rt the starts of the lines' parts, writing.rt the parts in
 // a lent store.
 ghost use mathlib.Core.Path.{_≡_};
 ghost use mathlib.Core.List.{[], _∷_};
@@ -13,7 +13,7 @@ use model::LINE_WIDTH;
 use model::Layout;
 use starts::STARTS;
 
-mod macros;
+mod sizes;
 mod starts;
 mod writing;
 

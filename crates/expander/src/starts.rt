@@ -6,7 +6,7 @@ ghost use Rattle.model.specs.Limits.{maxAccepted};
 ghost use Rattle.model.specs.Stored.{targetOf, targetCode, lineCount, lines};
 ghost use Rattle.model.specs.Expansion.{newTarget};
 ghost use Rattle.expander.specs.Starts.{lookedUp, Starts};
-use super::macros;
+use super::sizes;
 use model::LINE_WIDTH;
 use model::Layout;
 use model::MAX_ACCEPTED;
@@ -24,7 +24,7 @@ pub fn fill_starts(layout: Layout, program: &[u16], starts: &mut [u16; STARTS])
     let mut sum = 0;
     starts[0] = 0;
     while i < count {
-        sum += macros::size_at(layout, program, i);
+        sum += sizes::size_at(layout, program, i);
         i += 1;
         starts[i] = sum;
     }

@@ -1,4 +1,4 @@
--- `expander::macros::unary_size` meets its contract. The lengths of the pieces are added. Assumes nothing.
+-- `expander::sizes::unary_size` meets its contract. The lengths of the pieces are added. Assumes nothing.
 use mathlib.Core.Path.{sym, ap}
 use native.Mathlib.Omega.{arith}
 use lib.ListN.{length}
@@ -10,8 +10,8 @@ use Rattle.model.proofs.Lengths.{negate-pieces, copy-pieces}
 use Rattle.pieces.specs.Opcodes.{unary}
 use Rattle.expander.proofs.OpcodeNumbers.{unary-number}
 use borrow.Author.Needs.{needs}
-use Rattle.expander.proofs.macros.unary_size.Statement.{statement}
-use Rattle.expander.proofs.macros.unary_size.Tie as tie
+use Rattle.expander.proofs.sizes.unary_size.Statement.{statement}
+use Rattle.expander.proofs.sizes.unary_size.Tie as tie
 
 load-size-requires : tie.Need-load-size-requires
 load-size-requires c κs = search needs

@@ -1,9 +1,9 @@
--- `expander::macros::size_at` meets its contract. By the mark: one line, or the macro of the opcode and its arguments. Assumes nothing.
+-- `expander::sizes::size_at` meets its contract. By the mark: one line, or the macro of the opcode and its arguments. Assumes nothing.
 use mathlib.Core.Path.{refl, _∙_}
 use Rattle.expander.proofs.PartSizes.{plain-length, marked-length}
 use borrow.Author.Needs.{needs}
-use Rattle.expander.proofs.macros.size_at.Statement.{statement}
-use Rattle.expander.proofs.macros.size_at.Tie as tie
+use Rattle.expander.proofs.sizes.size_at.Statement.{statement}
+use Rattle.expander.proofs.sizes.size_at.Tie as tie
 
 numbers-at-requires : tie.Need-numbers-at-requires
 numbers-at-requires c κs = search needs

@@ -1,10 +1,10 @@
--- `expander::macros::load_size` meets its contract. By whether the argument is a public place. Assumes nothing.
+-- `expander::sizes::load_size` meets its contract. By whether the argument is a public place. Assumes nothing.
 use mathlib.Core.Path.{sym, ap, _∙_}
 use Rattle.model.specs.Places.{isPublic}
 use Rattle.model.proofs.Loads.{coded-kind, load-public, load-other}
 use borrow.Author.Needs.{needs}
-use Rattle.expander.proofs.macros.load_size.Statement.{statement}
-use Rattle.expander.proofs.macros.load_size.Tie as tie
+use Rattle.expander.proofs.sizes.load_size.Statement.{statement}
+use Rattle.expander.proofs.sizes.load_size.Tie as tie
 
 names-public-requires : tie.Need-names-public-requires
 names-public-requires c κs = search needs

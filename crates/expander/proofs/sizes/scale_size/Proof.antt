@@ -1,8 +1,8 @@
--- `expander::macros::scale_size` meets its contract. By whether the bits are spaced. Assumes nothing.
+-- `expander::sizes::scale_size` meets its contract. By whether the bits are spaced. Assumes nothing.
 use mathlib.Core.Path.{sym}
 use Rattle.model.proofs.Lengths.{scale-spaced, scale-near}
-use Rattle.expander.proofs.macros.scale_size.Statement.{statement}
-use Rattle.expander.proofs.macros.scale_size.Tie as tie
+use Rattle.expander.proofs.sizes.scale_size.Statement.{statement}
+use Rattle.expander.proofs.sizes.scale_size.Tie as tie
 
 returns : tie.Need-returns
 returns c = sym (scale-spaced _ (c .if1 .taken))

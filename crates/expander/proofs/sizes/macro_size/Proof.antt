@@ -1,12 +1,12 @@
--- `expander::macros::macro_size` meets its contract. By whether the opcode has a table. Assumes nothing.
+-- `expander::sizes::macro_size` meets its contract. By whether the opcode has a table. Assumes nothing.
 use mathlib.Core.Path.{refl, sym, ap, _∙_}
 use lib.ListN.{length}
 use Rattle.model.specs.Stored.{opcodeOf}
 use Rattle.expander.proofs.OpcodeNumbers.{table-number}
 use Rattle.pieces.proofs.PieceWrites.{table-macro, unary-macro}
 use borrow.Author.Needs.{needs}
-use Rattle.expander.proofs.macros.macro_size.Statement.{statement}
-use Rattle.expander.proofs.macros.macro_size.Tie as tie
+use Rattle.expander.proofs.sizes.macro_size.Statement.{statement}
+use Rattle.expander.proofs.sizes.macro_size.Tie as tie
 
 lookup-size-requires : tie.Need-lookup-size-requires
 lookup-size-requires c κs = search needs

@@ -1,12 +1,12 @@
--- `expander::macros::lookup_size` meets its contract. The lengths of the pieces are added. Assumes nothing.
+-- `expander::sizes::lookup_size` meets its contract. The lengths of the pieces are added. Assumes nothing.
 use native.Mathlib.Omega.{arith}
 use Rattle.model.specs.Stored.{operandOf}
 use Rattle.model.specs.Expansion.{coded, combine, fetch, writeBack}
 use Rattle.model.proofs.Loads.{load-bounds}
 use Rattle.model.proofs.Lengths.{scale-bounds, lookup-pieces}
 use borrow.Author.Needs.{needs}
-use Rattle.expander.proofs.macros.lookup_size.Statement.{statement}
-use Rattle.expander.proofs.macros.lookup_size.Tie as tie
+use Rattle.expander.proofs.sizes.lookup_size.Statement.{statement}
+use Rattle.expander.proofs.sizes.lookup_size.Tie as tie
 
 load-size-requires : tie.Need-load-size-requires
 load-size-requires c κs = search needs
