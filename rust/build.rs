@@ -14,9 +14,11 @@ fn main() {
     let out = env::var("OUT_DIR").unwrap();
     let object = format!("{out}/plain.o");
     let archive = format!("{out}/libplain.a");
+    // The processor that the plain C is for: this one, unless another is named.
+    let processor = env::var("PLAIN_MARCH").unwrap_or("native".to_string());
     run(Command::new("cc").args([
         "-O3",
-        "-march=native",
+        &format!("-march={processor}"),
         "-std=c11",
         "-Wall",
         "-Wextra",
@@ -28,6 +30,7 @@ fn main() {
     let _ = std::fs::remove_file(&archive);
     run(Command::new("ar").args(["rcs", &archive, &object]));
     println!("cargo:rerun-if-changed=build.rs");
+    println!("cargo:rerun-if-env-changed=PLAIN_MARCH");
     println!("cargo:rerun-if-changed=bench/plain.c");
     println!("cargo:rustc-link-search=native={out}");
     println!("cargo:rustc-link-lib=static=plain");

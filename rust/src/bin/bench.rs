@@ -117,7 +117,7 @@ fn worst_step() -> (Vec<u16>, Vec<u8>) {
 
 fn runs(source: &[u16], expansion: &[u16]) {
     let run = |name: &str, program: &[u16]| {
-        measure(name, 1.2, &|on, memory| on.run(program, 0, 65_535, &mut memory.state, &mut memory.numbers));
+        measure(name, 1.0, &|on, memory| on.run(program, 0, 65_535, &mut memory.state, &mut memory.numbers));
     };
     // A loop over indirect operands of all three forms.
     let looping = stored(
@@ -166,7 +166,7 @@ fn expansions() -> [f64; 3] {
     let marked = |count: usize| stored(&few.concat().repeat(count / 4));
     let jumps = |count: usize, target: usize| stored(&format!("u,jmp,,,,{target}\n").repeat(count));
     let in_layout = |layout: Layout, name: &str, program: Vec<u16>| {
-        measure(name, 1.2, &|on, memory| on.expand(layout, &program, &mut memory.numbers))
+        measure(name, 1.0, &|on, memory| on.expand(layout, &program, &mut memory.numbers))
     };
     let expand = |name: &str, program: Vec<u16>| in_layout(Layout::LOWEST, name, program);
     expand("expand, 1,024 lines with two public bits", stored(&"s,xor,r16,@5,!r4+3,\n".repeat(1_024)));
@@ -192,10 +192,10 @@ fn images() {
     for layout in [Layout::LOWEST, Layout::at(2, 1)] {
         let mut image = vec![0; STATE];
         Library.to_image(layout, &bits, &mut image);
-        measure(&format!("to_image, 1,000 calls, {}", in_words(layout)), 1.2, &|on, memory| {
+        measure(&format!("to_image, 1,000 calls, {}", in_words(layout)), 1.0, &|on, memory| {
             a_thousand(|| on.to_image(layout, &bits, &mut memory.bytes[..STATE]))
         });
-        measure(&format!("from_image, 1,000 calls, {}", in_words(layout)), 1.2, &|on, memory| {
+        measure(&format!("from_image, 1,000 calls, {}", in_words(layout)), 1.0, &|on, memory| {
             a_thousand(|| on.from_image(layout, &image, &mut memory.bytes[..STATE]))
         });
     }
@@ -225,11 +225,11 @@ fn texts() -> [f64; 2] {
     let text = |count: usize| few.concat().repeat(count / 8);
     let read = |name: &str, count: usize| {
         let text = text(count);
-        measure(name, 1.5, &|on, memory| on.read(text.as_bytes(), &mut memory.numbers))
+        measure(name, 1.1, &|on, memory| on.read(text.as_bytes(), &mut memory.numbers))
     };
     let write = |name: &str, count: usize| {
         let program = stored(&text(count));
-        measure(name, 1.5, &|on, memory| on.write(&program, &mut memory.bytes))
+        measure(name, 1.0, &|on, memory| on.write(&program, &mut memory.bytes))
     };
     read("read, 16,384 lines", 16_384);
     let read_long = read("read, 1,024 lines", 1_024);
