@@ -57,7 +57,7 @@ pub extern "C" fn dualrail_write(program: &[u16], out: &mut [u8]) -> u64
     ensures { λ r. ⌜ r ≡ packed (writeOutcome (now (program .entry)) (now (out .entry)) .answer) ⌝ }
     ensures { λ _. ⌜ now (out .exit) ∷ [] ≡ writeOutcome (now (program .entry)) (now (out .entry)) .stores ⌝ }
 {
-    pack(text::write(program, out))
+    pack(printing::write(program, out))
 }
 
 #[no_mangle]

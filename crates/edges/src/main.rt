@@ -72,14 +72,14 @@ fn reads(line: &[u8], input: &[u8], store: &mut [u16]) -> bool {
 
 // Reads the text of the program, of which the second number says how many bytes.
 fn reads_long(line: &[u8], program: &[u16], bytes: &mut [u8], store: &mut [u16]) -> bool {
-    text::write(program, bytes);
+    printing::write(program, bytes);
     let end = size(line, 1, bytes.len());
     reads(line, &bytes[0..end], store)
 }
 
 fn writes(line: &[u8], program: &[u16], bytes: &mut [u8]) -> bool {
     let room = size(line, 0, bytes.len());
-    let answer = text::write(program, &mut bytes[0..room]);
+    let answer = printing::write(program, &mut bytes[0..room]);
     is_right(line, answer, bytes, &[0u16; 0]) & is_text(line, bytes)
 }
 
@@ -96,7 +96,7 @@ fn expands(line: &[u8], program: &[u16], bytes: &mut [u8], store: &mut [u16]) ->
         program,
         &mut store[0..room],
     );
-    text::write(lines_of(store, answer), bytes);
+    printing::write(lines_of(store, answer), bytes);
     is_right(line, answer, bytes, store) & is_text(line, bytes)
 }
 

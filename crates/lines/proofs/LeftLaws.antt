@@ -16,9 +16,9 @@ use Rattle.model.specs.Answers.{report, counted, refused, Outcome, outcome, atF
 use Rattle.model.proofs.StoredLaws.{counted-count, never-counted}
 use Rattle.model.proofs.RoundTrip.{no-text}
 use Rattle.model.proofs.OutcomeLaws.{first-store}
-use Rattle.text.specs.Writing.{Wrote}
-use Rattle.text.proofs.StoreLaws.{sets-front}
-use Rattle.text.proofs.WroteLaws.{wrote-sets}
+use Rattle.printing.specs.Writing.{Wrote}
+use Rattle.model.proofs.Overwrites.{sets-front}
+use Rattle.printing.proofs.WroteLaws.{wrote-sets}
 use Rattle.model.specs.Text.{fitted}
 
 -- what is written, and then more

@@ -1,5 +1,5 @@
-// What the programs read and print line by line: lines of numbers parted by commas, and in reader.rt the line reader. As in text::printing,
-// a byte is written where there is room and counted in any case.
+// What the programs read and print line by line: lines of numbers parted by commas, and in reader.rt the line reader. As in the
+// crate `printing`, a byte is written where there is room and counted in any case.
 ghost use mathlib.Core.Path.{_≡_};
 ghost use mathlib.Core.List.{[], _∷_};
 ghost use Prim.Native.Nat.{_+_, _*_, _/_, _<_, _≤_};
@@ -7,14 +7,14 @@ ghost use lib.ListN.{length};
 ghost use Rattle.model.specs.Answers.{report, outcome};
 ghost use Rattle.model.specs.Limits.{rowWidth};
 ghost use Rattle.model.specs.Programs.{numbersText, orRefusal};
-ghost use Rattle.text.specs.Writing.{Wrote, printable};
+ghost use Rattle.printing.specs.Writing.{Wrote, printable};
 ghost use Rattle.lines.specs.Printing.{rowsText, linesText};
 ghost use Rattle.model.specs.Text.{fitted};
 use model::Answer;
 use model::ROW_WIDTH;
-use text::printing::put;
-use text::printing::put_number;
-use text::printing::put_tagged;
+use printing::put;
+use printing::put_number;
+use printing::put_tagged;
 
 pub mod reader;
 

@@ -5,6 +5,7 @@ pub mod DecimalLaws
 pub mod SpellingLaws
 pub mod CutLaws
 pub mod ReadingLaws
+pub mod Overwrites
 pub mod RoundTrip
 pub mod Runs
 pub mod MacroLines

@@ -116,7 +116,7 @@ pub fn print_expansion(input: &[u8], out: &mut [u8]) -> Answer
         return write_refusal(loaded, out);
     };
     let end = LINE_WIDTH * (n as usize);
-    text::write(&listing[..end], out)
+    printing::write(&listing[..end], out)
 }
 
 // The text of the trace, or of a refusal.

@@ -6,7 +6,3 @@ pub mod ScanLaws
 pub mod LineLaws
 pub mod StoreLaws
 pub mod ReadLaws
-pub mod WroteLaws
-pub mod SizeLaws
-pub mod PrintLaws
-pub mod RoundTrip

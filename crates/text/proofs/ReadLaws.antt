@@ -15,7 +15,7 @@ use Rattle.model.specs.Stored.{Parsed, numbers, wrong}
 use Rattle.model.specs.Text.{newline, past, frontLine, Reading, ends, thenReads, reading, readOutcome}
 use Rattle.model.proofs.ReadingLaws.{front-back}
 use Rattle.model.proofs.RoundTrip.{reading-zero, reading-suc, read-outcome}
-use Rattle.text.proofs.StoreLaws.{sets-append, sets-front}
+use Rattle.model.proofs.Overwrites.{sets-append, sets-front}
 
 -- ---- what is stored has room
 

@@ -1,4 +1,3 @@
 pub mod Fields
 pub mod Lines
 pub mod Scanning
-pub mod Writing

@@ -1,33 +1,23 @@
-// 'Line form' of document 01, the reader and the writer of program text: any bytes to stored lines, six numbers to a line (conditions 1
-// to 8), and a stored program to its text (7, 3 to 6, 17).
+// 'Line form' of document 01, the reader of program text: any bytes to stored lines, six numbers to a line (conditions 1 to 8).
 ghost use mathlib.Core.Path.{_≡_};
-ghost use Prim.Native.Nat.{_+_, _*_, _≤_};
-ghost use mathlib.Core.List.{[], _∷_, flatMap};
+ghost use Prim.Native.Nat.{_+_, _≤_};
+ghost use mathlib.Core.List.{[], _∷_};
 ghost use lib.ListN.{length, drop};
 ghost use lib.Seq.{sets};
 ghost use Rattle.model.specs.Answers.{report, outcome};
-ghost use Rattle.model.specs.Limits.{maxLines};
-ghost use Rattle.model.specs.Stored.{linesFrom};
-ghost use Rattle.model.specs.Text.{spellLine, frontLine, readOutcome, writeOutcome};
+ghost use Rattle.model.specs.Text.{frontLine, readOutcome};
 ghost use Rattle.text.specs.Lines.{meaning, numbersOf, kept};
-ghost use Rattle.text.specs.Writing.{Wrote};
 
 pub mod cut;
 mod fields;
 pub mod line;
-pub mod printing;
 mod scanning;
-mod size;
 
 use crate::cut::beyond;
 use crate::cut::find;
 use crate::line::front;
 use crate::line::refusal;
-use crate::printing::put_line;
 use crate::scanning::take;
-use crate::size::text_size;
-use coding::check_program;
-use coding::numbers_at;
 use model::Answer;
 use model::LINE_WIDTH;
 use model::MAX_LINES;
@@ -130,46 +120,4 @@ pub fn read(text: &[u8], store: &mut [u16]) -> Answer
         }
     }
     Answer::Count(n as u32)
-}
-
-// Writes the text of the first n lines, as far as there is room, and gives its length.
-fn print(program: &[u16], n: usize, out: &mut [u8]) -> usize
-    requires { ⌜ n ≤ maxLines ⌝ }
-    ensures { λ r. ⌜ Wrote (now (out .entry)) (now (out .exit)) 0 r (flatMap spellLine (linesFrom (now (program .entry)) 0 n)) (54 * n) ⌝ }
-{
-    let mut at: usize = 0;
-    let mut i: usize = 0;
-    while i < n {
-        let l = numbers_at(program, i);
-        at = put_line(out, at, l[0], l[1], l[2], l[3], l[4], l[5]);
-        i += 1;
-    }
-    at
-}
-
-// The most bytes of a correct line, its newline among them.
-const LONGEST_LINE: usize = 34;
-
-// Writes the text of a stored program. That it fits is known before a byte is written: there is room for as many of the longest lines, or
-// the text's bytes are counted.
-pub fn write(program: &[u16], out: &mut [u8]) -> Answer
-    ensures { λ r. ⌜ outcome (report r) (now (out .exit) ∷ []) ≡ writeOutcome (now (program .entry)) (now (out .entry)) ⌝ }
-{
-    let checked = check_program(program);
-    let Answer::Count(_) = checked else {
-        return checked;
-    };
-    let n = program.len() / LINE_WIDTH;
-    let mut size: usize = 0;
-    if out.len() < LONGEST_LINE * n {
-        size = text_size(program, n);
-    }
-    if out.len() < size {
-        return Answer::Refused {
-            number: 17,
-            line: 0,
-        };
-    }
-    let written = print(program, n, out);
-    Answer::Count(written as u32)
 }

@@ -1,7 +1,7 @@
 -- `lines::put_lines` meets its contract: one text after another. Assumes nothing.
 use native.Mathlib.Omega.{arith}
 use borrow.Author.Needs.{needs}
-use Rattle.text.proofs.WroteLaws.{then, at-most}
+use Rattle.printing.proofs.WroteLaws.{then, at-most}
 use Rattle.lines.specs.Printing.{linesText}
 use Rattle.lines.proofs.put_lines.Statement.{statement}
 use Rattle.lines.proofs.put_lines.Tie as tie

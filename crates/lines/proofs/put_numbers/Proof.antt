@@ -4,7 +4,7 @@ use Prim.Native.Nat.{_+_, _-_, _*_, _≤_}
 use native.Mathlib.Omega.{arith}
 use borrow.Author.Needs.{needs}
 use lib.ListN.{length, drop}
-use Rattle.text.proofs.WroteLaws.{then, as-text, at-most}
+use Rattle.printing.proofs.WroteLaws.{then, as-text, at-most}
 use Rattle.lines.proofs.LeftLaws.{Left, left-all, left-next, left-none}
 use Rattle.lines.proofs.LineTexts.{listed, listed-next, listed-end, numbers-text}
 use Rattle.lines.proofs.put_numbers.Statement.{statement}

@@ -6,7 +6,7 @@ use borrow.Author.Needs.{needs}
 use lib.ListN.{length, drop}
 use Rattle.model.specs.Limits.{rowWidth}
 use Rattle.model.specs.Programs.{numbersText}
-use Rattle.text.proofs.WroteLaws.{as-text}
+use Rattle.printing.proofs.WroteLaws.{as-text}
 use Rattle.lines.specs.Printing.{rowsText}
 use Rattle.lines.proofs.LeftLaws.{Left, left-next, left-none}
 use Rattle.lines.proofs.LineTexts.{row-part, row-length, rows-first, rows-next, rows-end}

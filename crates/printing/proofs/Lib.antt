@@ -1,0 +1,4 @@
+pub mod WroteLaws
+pub mod SizeLaws
+pub mod PrintLaws
+pub mod RoundTrip
