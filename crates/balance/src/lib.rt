@@ -45,8 +45,8 @@ pub struct Followed {
 }
 
 // Runs a program from a bit state and a listing from an image, and goes the way back from what the listing left. On a listing that `expand`
-// wrote of the program in that layout, from the same source line, and after whole source lines, the listing stands where the program stands, and the way
-// back gives the program's state.
+// wrote of the program in that layout, from the same source line, and after whole source lines, the listing stands where the program
+// stands, and the way back gives the program's state.
 pub fn follow(
     position: u8,
     spacing: u8,

@@ -1,5 +1,5 @@
-// Request 01, said of the functions that run. specs/VerdictClaims states both claims of the calls of `judge`, `expand` and `run`, proofs/VerdictCalls proves them,
-// and the functions here, which call these entry points, promise them.
+// Request 01, said of the functions that run. specs/VerdictClaims states both claims of the calls of `judge`, `expand` and `run`,
+// proofs/VerdictCalls proves them, and the functions here, which call these entry points, promise them.
 ghost use mathlib.Core.Path.{_≡_};
 ghost use mathlib.Core.List.{[], _∷_};
 ghost use Prim.Native.Nat.{ℕ};

@@ -9,7 +9,7 @@ ghost use lib.Dec.{eqb, ltb};
 ghost use lib.ListN.{length, getD, set, drop};
 ghost use Rattle.model.specs.Limits.{stateSize, lineWidth, rowWidth};
 ghost use Rattle.model.specs.Stored.{operandOf};
-ghost use Rattle.sets.specs.Walk.{setWidth, maxValues, listed, listsOf, values, several, heads, base, draw, involved, sameRow};
+ghost use Rattle.sets.specs.Walk.{setWidth, maxValues, listed, listsOf, values, heads, base, draw, involved, sameRow};
 ghost use Rattle.choices.specs.Gathering.{lineBy, argumentPlaces, spot, gathered, visitedAll, Settled, Opens, allAt, alike, begun};
 use bytes::ROOM;
 use bytes::is_overfull;

@@ -13,12 +13,12 @@ use Rattle.model.specs.Stored.{opcodeOf}
 use Rattle.pieces.specs.Opcodes.{hasTable, unary}
 
 -- an opcode without a macro
-record Bare (op : Opcode) : Type 0 where
+record NoMacro (op : Opcode) : Type 0 where
   no-table : hasTable op ≡ false
   nothing : (L : Layout) (d a : Operand) → unary L op d a ≡ []
 
 -- from lsl on, number 7
-high : (n : ℕ) → Bare (opcodeOf (suc (suc (suc (suc (suc (suc (suc n))))))))
+high : (n : ℕ) → NoMacro (opcodeOf (suc (suc (suc (suc (suc (suc (suc n))))))))
 unfolding unary
 high zero = record { no-table = refl; nothing = λ L d a. refl }
 high (suc zero) = record { no-table = refl; nothing = λ L d a. refl }

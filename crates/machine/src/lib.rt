@@ -180,7 +180,7 @@ pub fn place_at(code: u16, state: &[u8]) -> usize
     place_of(code, state)
 }
 
-// The value of the number of a literal; that of an empty field, which is 0, is 0 too.
+// The value of the number of a literal, which is one less; that of an empty field, whose number is 0, is 0 too, as 0 - 1 is in a contract.
 fn literal(code: u16) -> u8
     requires { ⌜ code < registers ⌝ }
     ensures { λ r. ⌜ r ≡ code - 1 ⌝ }

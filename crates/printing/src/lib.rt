@@ -212,7 +212,7 @@ fn print(program: &[u16], n: usize, out: &mut [u8]) -> usize
 }
 
 // The most bytes of a correct line, its newline among them.
-const LONGEST_LINE: usize = 34;
+pub const LONGEST_LINE: usize = 34;
 
 // Writes the text of a stored program. That it fits is known before a byte is written: there is room for as many of the longest lines, or
 // the text's bytes are counted.
@@ -224,6 +224,7 @@ pub fn write(program: &[u16], out: &mut [u8]) -> Answer
         return checked;
     };
     let n = program.len() / LINE_WIDTH;
+    // 0 where there is room for any lines.
     let mut size: usize = 0;
     if out.len() < LONGEST_LINE * n {
         size = text_size(program, n);

@@ -17,18 +17,17 @@ use Rattle.model.specs.declared.Line.{Line}
 use Rattle.model.specs.Limits.{lineWidth, longest, maxAccepted, maxLines}
 use Rattle.model.specs.Answers.{Report, done, report, counted, refused, Outcome, outcome, andThen, unlessRefused, atFront}
 use Rattle.model.specs.Stored.{codes, lineCount, lines, programCheck}
-use Rattle.model.specs.Text.{Reading, reading, spellLine, readOutcome, textOf, writeOutcome, fitted}
+use Rattle.model.specs.Text.{reading, spellLine, readOutcome, textOf, writeOutcome, fitted}
 use Rattle.model.specs.Marks.{markCheck, Accepted}
 use Rattle.model.specs.Expansion.{expand, expansionIn, expandOutcome, written}
 use Rattle.model.specs.Programs.{inputSize, orRefusal, printed, expandPrints}
 use Rattle.model.proofs.StoredLaws.{counted-count, never-counted, codes-length}
-use Rattle.model.proofs.RoundTrip.{read-outcome, reads-back}
 use Rattle.model.proofs.ExpansionLaws.{expansion-most, expansion-check, expansion-lines, mark-accepted}
 use Rattle.model.proofs.OutcomeLaws.{first-store}
-use Rattle.model.proofs.CheckAnswers.{CountOrRefusal, counts, refuses, either, then-answers, reading-answers, mark-answers, accepted-source, NoCount, count-told, Refusal, no-count-refuses, refusal-leaves}
+use Rattle.model.proofs.CheckAnswers.{CountOrRefusal, counts, refuses, either, then-answers, mark-answers, accepted-source, NoCount, count-told, Refusal, no-count-refuses, refusal-leaves}
 use Rattle.model.specs.Text.{fitted}
 use Rattle.lines.specs.Reading.{readInput}
-use Rattle.lines.proofs.InputLaws.{read-input, answer-is, refusal-read, count-is, stored-fits, stored-part}
+use Rattle.lines.proofs.InputLaws.{read-input, answer-is, refusal-read, stored-fits, stored-part}
 use Rattle.programs.specs.Loading.{mostNumbers, expansionOf, loadAnswer, loadOutcome}
 use Rattle.programs.proofs.ReadRoom.{room-enough}
 

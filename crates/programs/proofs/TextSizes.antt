@@ -13,7 +13,6 @@ use Rattle.model.specs.declared.Line.{Line}
 use Rattle.model.specs.Limits.{rowWidth}
 use Rattle.model.specs.Answers.{Report, done, refused, counted, outcome, atFront}
 use Rattle.model.specs.Places.{State}
-use Rattle.model.specs.Lines.{AllCorrect}
 use Rattle.model.specs.Stored.{lines}
 use Rattle.model.specs.Text.{spellLine}
 use Rattle.model.specs.Step.{Row, next, after}
@@ -21,13 +20,13 @@ use Rattle.model.specs.Run.{Ran, run}
 use Rattle.model.specs.Marks.{markCheck, Accepted}
 use Rattle.model.specs.Expansion.{expand}
 use Rattle.model.specs.Programs.{inputSize, traceBudget, orRefusal, printed, numbersText, endingText, traceText, expandPrints, tracePrints}
-use Rattle.model.proofs.SpellingLaws.{line-34}
 use Rattle.model.proofs.ExpansionLaws.{expansion-most, expansion-correct}
 use Rattle.model.proofs.Runs.{run-zero, stopped, step-run}
 use Rattle.model.proofs.CheckAnswers.{accepted-source}
 use Rattle.model.specs.Text.{fitted}
 use Rattle.programs.specs.Sizes.{expansionBytes, rowBytes, traceBytes}
 use Rattle.lines.specs.Reading.{readInput}
+use Rattle.printing.proofs.SizeLaws.{spelled-most}
 use Rattle.lines.proofs.LeftLaws.{all-fits}
 use Rattle.lines.proofs.LineTexts.{numbers-most, refusal-most}
 use Rattle.programs.proofs.LoadLaws.{printed-is, expand-prints}
@@ -50,11 +49,6 @@ module _ (text : List Line → List ℕ) (most : ℕ) (enough : 20 ≤ most) (bo
       by false (done vs) (done ms) e = bound (lines (readInput input .stored)) (accepted-source (readInput input .stored) ms e)
 
 -- ---- the expansion
-
-spelled-most : (ls : List Line) → AllCorrect ls → length (flatMap spellLine ls) ≤ 34 * length ls
-unfolding flatMap
-spelled-most [] h = omega arith
-spelled-most (l ∷ ls) h = omega (arith, length-append (spellLine l) (flatMap spellLine ls), line-34 l (h .0), spelled-most ls (h .1))
 
 pub expansion-most-bytes : (input : List ℕ) → length (expandPrints input) ≤ expansionBytes
 expansion-most-bytes input =

@@ -27,9 +27,9 @@ pub const INPUT_SIZE: usize = 4096;
 // The budget of the run.
 const TRACE_BUDGET: u16 = 1000;
 
-// The most bytes that the programs print: lines of at most 34 bytes; rows of numbers of at most five digits, each followed by a comma or
+// The most bytes that the programs print: lines of the longest; rows of numbers of at most five digits, each followed by a comma or
 // the newline, and a last line of at most 13.
-pub const EXPANSION_BYTES: usize = 34 * LONGEST * MAX_ACCEPTED;
+pub const EXPANSION_BYTES: usize = printing::LONGEST_LINE * LONGEST * MAX_ACCEPTED;
 
 pub const TRACE_BYTES: usize = 6 * ROW_WIDTH * (TRACE_BUDGET as usize) + 13;
 

@@ -17,7 +17,7 @@ use Rattle.model.proofs.DecimalLaws.{decimal-snoc, decimal-digit}
 use Rattle.model.proofs.SpellingLaws.{based, mark-exactly, opcode-exactly}
 use Rattle.model.proofs.StoredLaws.{numbers-back, numbers-correct}
 use Rattle.model.proofs.ReadingLaws.{front-there, past-there}
-use Rattle.text.specs.Scanning.{placeOf, numberOf, Stands, Scanned, NumberThere, Numbered, Based, EndThere, Ended, Rest, Completed, LineThere, Took}
+use Rattle.text.specs.Scanning.{positionOf, numberOf, Stands, Scanned, NumberThere, Numbered, Based, EndThere, Ended, Rest, Completed, LineThere, Took}
 
 -- a byte of the text, and what stands after it
 byte-there : (s : List ℕ) (i : ℕ) (c : ℕ) → i < length s → getD s i 0 ≡ c → drop i s ≡ c ∷ drop (i + 1) s
@@ -39,12 +39,12 @@ next-digit text s k i h p l m u e =
     ∙ ap (λ (x : List ℕ). decimal k ++ x) (sym (digit-there s i h l))
     ∙ e
 
-pub number-there : (text : List ℕ) (n more : ℕ) (s : List ℕ) (k i r : ℕ) → k < n → decimal k ++ drop i s ≡ text → (placeOf r ≡ i) × (numberOf r ≡ more + k) → Numbered text n more s r
+pub number-there : (text : List ℕ) (n more : ℕ) (s : List ℕ) (k i r : ℕ) → k < n → decimal k ++ drop i s ≡ text → (positionOf r ≡ i) × (numberOf r ≡ more + k) → Numbered text n more s r
 number-there text n more s k i r h e a p =
     let q : numberOf r - more ≡ k = omega (arith, a .1) in
     record { least = omega (arith, a .1); below = omega (arith, a .1); digits = sym (ap₂ (λ (j l : ℕ). decimal j ++ drop l s) q (a .0) ∙ e) }
 
-pub zero-there : (n more : ℕ) (s : List ℕ) (at r : ℕ) → 0 < n → at < length s → getD s at 0 ≡ 48 → (placeOf r ≡ at + 1) × (numberOf r ≡ more) → Numbered (drop at s) n more s r
+pub zero-there : (n more : ℕ) (s : List ℕ) (at r : ℕ) → 0 < n → at < length s → getD s at 0 ≡ 48 → (positionOf r ≡ at + 1) × (numberOf r ≡ more) → Numbered (drop at s) n more s r
 zero-there n more s at r p h e a =
     let q : 0 ≡ getD s at 0 - 48 = omega arith in
     number-there (drop at s) n more s 0 (at + 1) r p (ap (λ (j : ℕ). decimal j ++ drop (at + 1) s) q ∙ first-digit s at h (omega arith) (omega arith)) (a .0, omega (arith, a .1))
@@ -57,25 +57,25 @@ module _ (s : List ℕ) (at c : ℕ) (h : at < length s) (e : getD s at 0 ≡ c)
       → Numbered (drop (at + 1) s) n more s r → Scanned (λ k. spellOperand (operandOf k)) s at r
   tagged n more form r x p =
       let y = x p in
-      byte-there s at c h e ∙ ap (λ (l : List ℕ). c ∷ l) (y .digits) ∙ ap (λ (l : List ℕ). l ++ drop (placeOf r) s) (sym (form (numberOf r) (y .least) (y .below)))
+      byte-there s at c h e ∙ ap (λ (l : List ℕ). c ∷ l) (y .digits) ∙ ap (λ (l : List ℕ). l ++ drop (positionOf r) s) (sym (form (numberOf r) (y .least) (y .below)))
 
   pub signed : (w more : ℕ) → ((b n : ℕ) → b < 32 → n < w → spellOperand (operandOf (more + (w * b + n))) ≡ c ∷ based b n) → (r : ℕ)
       → Based w more s (at + 1) r → Scanned (λ k. spellOperand (operandOf k)) s at r
   signed w more form r x p =
       let y = x p in
       let q : spellOperand (operandOf (numberOf r)) ≡ c ∷ based (y .base) (y .offset) = ap (λ (j : ℕ). spellOperand (operandOf j)) (y .number) ∙ form (y .base) (y .offset) (y .base-below) (y .offset-below) in
-      byte-there s at c h e ∙ ap (λ (l : List ℕ). c ∷ l) (y .text) ∙ ap (λ (l : List ℕ). l ++ drop (placeOf r) s) (sym q)
+      byte-there s at c h e ∙ ap (λ (l : List ℕ). c ∷ l) (y .text) ∙ ap (λ (l : List ℕ). l ++ drop (positionOf r) s) (sym q)
 
   pub led : (spell : ℕ → List ℕ) (r : ℕ) → Scanned spell s (at + 1) r → Scanned (λ k. c ∷ spell k) s at r
   led spell r x p = byte-there s at c h e ∙ ap (λ (l : List ℕ). c ∷ l) (x p)
 
 -- an empty operand
-pub none-there : (s : List ℕ) (at r : ℕ) → (placeOf r ≡ at) × (numberOf r ≡ 0) → Scanned (λ k. spellOperand (operandOf k)) s at r
+pub none-there : (s : List ℕ) (at r : ℕ) → (positionOf r ≡ at) × (numberOf r ≡ 0) → Scanned (λ k. spellOperand (operandOf k)) s at r
 unfolding spellOperand operandOf
 none-there s at r a p = sym (ap₂ (λ (k i : ℕ). spellOperand (operandOf k) ++ drop i s) (a .1) (a .0))
 
 -- a base, found at b and ended at plus, then the sign and the offset
-module _ (s : List ℕ) (at w more q b plus : ℕ) (x : Numbered (drop (at + 1) s) 32 0 s q) (p : 0 < q) (eb : b ≡ numberOf q) (ep : plus ≡ placeOf q) where
+module _ (s : List ℕ) (at w more q b plus : ℕ) (x : Numbered (drop (at + 1) s) 32 0 s q) (p : 0 < q) (eb : b ≡ numberOf q) (ep : plus ≡ positionOf q) where
   there : NumberThere (drop (at + 1) s) 32 0 s b plus
   there = rw (eb, ep) (x p)
 
@@ -95,7 +95,7 @@ module _ (s : List ℕ) (at w more q b plus : ℕ) (x : Numbered (drop (at + 1) 
             byte-there s at 114 h f
             ∙ ap (λ (l : List ℕ). 114 ∷ l) (there .digits ∙ ap (λ (j : ℕ). decimal j ++ drop plus s) z)
             ∙ ap (λ (l : List ℕ). 114 ∷ (decimal b ++ l)) (byte-there s plus 43 i g ∙ ap (λ (l : List ℕ). 43 ∷ l) (y o .digits))
-            ∙ ap (λ (l : List ℕ). 114 ∷ l) (sym (append-assoc (decimal b) (43 ∷ decimal (numberOf r - (more + w * b))) (drop (placeOf r) s)));
+            ∙ ap (λ (l : List ℕ). 114 ∷ l) (sym (append-assoc (decimal b) (43 ∷ decimal (numberOf r - (more + w * b))) (drop (positionOf r) s)));
       }
 
 -- ---- the end of a line
@@ -105,7 +105,7 @@ unfolding spellTarget targetOf
 target-form k h = rw (ne-eqb k 0 (λ e. omega arith))
 
 module _ (s : List ℕ) (at : ℕ) (h : at < length s) (e : getD s at 0 ≡ comma) where
-  pub ended-none : (r : ℕ) → at + 1 < length s → getD s (at + 1) 0 ≡ newline → (placeOf r ≡ at + 1) × (numberOf r ≡ 0) → Ended s at r
+  pub ended-none : (r : ℕ) → at + 1 < length s → getD s (at + 1) 0 ≡ newline → (positionOf r ≡ at + 1) × (numberOf r ≡ 0) → Ended s at r
   unfolding spellTarget targetOf
   ended-none r i f a p =
       record {
@@ -116,7 +116,7 @@ module _ (s : List ℕ) (at : ℕ) (h : at < length s) (e : getD s at 0 ≡ comm
             ∙ sym (ap₂ (λ (k end : ℕ). comma ∷ (spellTarget (targetOf k) ++ (newline ∷ drop (end + 1) s))) (a .1) (a .0));
       }
 
-  pub ended-there : (n r end : ℕ) → end ≡ placeOf r → Numbered (drop (at + 1) s) n 1 s r → end < length s → getD s end 0 ≡ newline → Ended s at r
+  pub ended-there : (n r end : ℕ) → end ≡ positionOf r → Numbered (drop (at + 1) s) n 1 s r → end < length s → getD s end 0 ≡ newline → Ended s at r
   ended-there n r end q y i f p =
       let x = y p in
       record {
@@ -124,17 +124,17 @@ module _ (s : List ℕ) (at : ℕ) (h : at < length s) (e : getD s at 0 ≡ comm
         text =
             byte-there s at comma h e
             ∙ ap (λ (l : List ℕ). comma ∷ l) (x .digits)
-            ∙ ap (λ (l : List ℕ). comma ∷ (decimal (numberOf r - 1) ++ l)) (byte-there s (placeOf r) newline (omega arith) (ap (λ (j : ℕ). getD s j 0) (sym q) ∙ f))
-            ∙ ap (λ (l : List ℕ). comma ∷ (l ++ (newline ∷ drop (placeOf r + 1) s))) (sym (target-form (numberOf r) (x .least)));
+            ∙ ap (λ (l : List ℕ). comma ∷ (decimal (numberOf r - 1) ++ l)) (byte-there s (positionOf r) newline (omega arith) (ap (λ (j : ℕ). getD s j 0) (sym q) ∙ f))
+            ∙ ap (λ (l : List ℕ). comma ∷ (l ++ (newline ∷ drop (positionOf r + 1) s))) (sym (target-form (numberOf r) (x .least)));
       }
 
 -- ---- a line
 
 -- what a scan found, and where it ended
-pub stands : (spell : ℕ → List ℕ) (s : List ℕ) (at r i k : ℕ) → Scanned spell s at r → (r ≡ 0 → ⊥) → i ≡ placeOf r → k ≡ numberOf r → Stands s at (spell k) i
+pub stands : (spell : ℕ → List ℕ) (s : List ℕ) (at r i k : ℕ) → Scanned spell s at r → (r ≡ 0 → ⊥) → i ≡ positionOf r → k ≡ numberOf r → Stands s at (spell k) i
 stands spell s at r i k x p ei ek = rw (ei, ek) (x (omega arith))
 
-pub ends : (s : List ℕ) (at r end k : ℕ) → Ended s at r → (r ≡ 0 → ⊥) → end ≡ placeOf r → k ≡ numberOf r → EndThere s at k end
+pub ends : (s : List ℕ) (at r end k : ℕ) → Ended s at r → (r ≡ 0 → ⊥) → end ≡ positionOf r → k ≡ numberOf r → EndThere s at k end
 ends s at r end k x p ei ek = rw (ei, ek) (x (omega arith))
 
 abbrev listed : ℕ → List ℕ

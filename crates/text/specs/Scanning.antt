@@ -8,19 +8,19 @@ use Rattle.model.specs.Stored.{operandOf, targetOf, numbers, parsedNumbers, fau
 use Rattle.model.specs.Text.{comma, newline, past, decimal, spellOperand, spellTarget, frontLine}
 
 -- a scan's answer: where it ended, and the number that it found; 0 where it found none
-abbrev pub placeOf : ℕ → ℕ
-placeOf r = r / 65536
+abbrev pub positionOf : ℕ → ℕ
+positionOf r = r / 65536
 
 abbrev pub numberOf : ℕ → ℕ
 numberOf r = r % 65536
 
--- a spelling stands at a place, and the text goes on at the next
+-- a spelling stands at a position, and the text goes on at the next
 abbrev pub Stands : List ℕ → ℕ → List ℕ → ℕ → Type 0
 Stands s at spelling next = drop at s ≡ spelling ++ drop next s
 
 -- the number that was found is spelled there
 abbrev pub Scanned : (ℕ → List ℕ) → List ℕ → ℕ → ℕ → Type 0
-Scanned spell s at r = 0 < r → Stands s at (spell (numberOf r)) (placeOf r)
+Scanned spell s at r = 0 < r → Stands s at (spell (numberOf r)) (positionOf r)
 
 -- a decimal number below n, and more
 pub record NumberThere (text : List ℕ) (n more : ℕ) (s : List ℕ) (k next : ℕ) : Type 0 where
@@ -29,7 +29,7 @@ pub record NumberThere (text : List ℕ) (n more : ℕ) (s : List ℕ) (k next :
   pub digits : text ≡ decimal (k - more) ++ drop next s
 
 abbrev pub Numbered : List ℕ → ℕ → ℕ → List ℕ → ℕ → Type 0
-Numbered text n more s r = 0 < r → NumberThere text n more s (numberOf r) (placeOf r)
+Numbered text n more s r = 0 < r → NumberThere text n more s (numberOf r) (positionOf r)
 
 -- `rN+k` with k below w, and more
 pub record BaseThere (w more : ℕ) (s : List ℕ) (at k next : ℕ) : Type 0 where
@@ -41,15 +41,15 @@ pub record BaseThere (w more : ℕ) (s : List ℕ) (at k next : ℕ) : Type 0 wh
   pub text : drop at s ≡ (114 ∷ (decimal base ++ (43 ∷ decimal offset))) ++ drop next s
 
 abbrev pub Based : ℕ → ℕ → List ℕ → ℕ → ℕ → Type 0
-Based w more s at r = 0 < r → BaseThere w more s at (numberOf r) (placeOf r)
+Based w more s at r = 0 < r → BaseThere w more s at (numberOf r) (positionOf r)
 
--- a comma, a target, and the newline at the place that is found
+-- a comma, a target, and the newline at the position that is found
 pub record EndThere (s : List ℕ) (at k end : ℕ) : Type 0 where
   pub within : end < length s
   pub text : drop at s ≡ comma ∷ (spellTarget (targetOf k) ++ (newline ∷ drop (end + 1) s))
 
 abbrev pub Ended : List ℕ → ℕ → ℕ → Type 0
-Ended s at r = 0 < r → EndThere s at (numberOf r) (placeOf r)
+Ended s at r = 0 < r → EndThere s at (numberOf r) (positionOf r)
 
 -- the operands and the target of a correct line after mark and opcode, and the numbers of the line stored
 pub record Rest (s : List ℕ) (m o : ℕ) (old new : List ℕ) (at bytes : ℕ) : Type 0 where

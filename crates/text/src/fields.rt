@@ -18,7 +18,7 @@ use coding::TABLES;
 use coding::TARGETS;
 
 // How many line numbers a target may name.
-const LINE_NUMBERS: u16 = TARGETS - 1;
+pub(crate) const LINE_NUMBERS: u16 = TARGETS - 1;
 
 // The number that digits spell, while it stays below n.
 fn digits(s: &[u8], n: u16) -> Field

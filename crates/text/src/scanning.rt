@@ -1,15 +1,18 @@
-// A correct line read in one pass. A scan answers one number, 65,536 times the place where it ended and the stored number that it found,
+// A correct line read in one pass. A scan answers one number, 65,536 times the position where it ended and the stored number that it found,
 // or 0: a number is handed on in a register, an enum through memory. What was found is spelled there, so that scans that meet are a line.
 ghost use mathlib.Core.Path.{_≡_};
+ghost use mathlib.Core.Bool.{cond};
 ghost use mathlib.Core.List.{_∷_, _++_};
 ghost use Prim.Native.Nat.{_+_, _≤_, _<_};
+ghost use lib.Dec.{ltb};
 ghost use lib.ListN.{length, drop};
 ghost use Rattle.model.specs.Limits.{lineReach};
 ghost use Rattle.model.specs.Stored.{operandOf};
 ghost use Rattle.model.specs.Text.{comma, decimal, spellOperand};
-ghost use Rattle.text.specs.Scanning.{placeOf, numberOf, Scanned, Numbered, Based, Ended, Completed, Took};
+ghost use Rattle.text.specs.Scanning.{positionOf, numberOf, Scanned, Numbered, Based, Ended, Completed, Took};
 use crate::Field;
 use crate::Stored;
+use crate::fields::LINE_NUMBERS;
 use crate::fields::mark;
 use crate::fields::opcode;
 use crate::keep;
@@ -20,23 +23,19 @@ use coding::PUBLICS;
 use coding::REGISTERS;
 use coding::SENSITIVES;
 use coding::TABLES;
-use coding::TARGETS;
 use coding::fault_of;
 
-// How many line numbers a target may name.
-const LINE_NUMBERS: u16 = TARGETS - 1;
-
 // A scan's answer.
-fn answer(place: usize, number: u16) -> u32
-    requires { ⌜ place ≤ lineReach ⌝ }
-    ensures { λ r. ⌜ (placeOf r ≡ place) × (numberOf r ≡ number) ⌝ }
+fn answer(position: usize, number: u16) -> u32
+    requires { ⌜ position ≤ lineReach ⌝ }
+    ensures { λ r. ⌜ (positionOf r ≡ position) × (numberOf r ≡ number) ⌝ }
 {
-    65536 * (place as u32) + (number as u32)
+    65536 * (position as u32) + (number as u32)
 }
 
 // Where a scan ended.
-fn place(scan: u32) -> usize
-    ensures { λ r. ⌜ r ≡ placeOf scan ⌝ }
+fn position(scan: u32) -> usize
+    ensures { λ r. ⌜ r ≡ positionOf scan ⌝ }
 {
     (scan / 65536) as usize
 }
@@ -109,7 +108,7 @@ fn indirect(s: &[u8], at: usize, w: u16, more: u16) -> u32
     if base == 0 {
         return 0;
     }
-    let plus = place(base);
+    let plus = position(base);
     if s.len() <= plus {
         return 0;
     }
@@ -163,7 +162,7 @@ fn listed(s: &[u8], at: usize) -> u32
     operand(s, at + 1)
 }
 
-// A comma, a target and a newline; the place is that of the newline.
+// A comma, a target and a newline; the position is that of the newline.
 fn ending(s: &[u8], at: usize) -> u32
     requires { ⌜ length (now s) ≤ lineReach ⌝ }
     ensures { λ r. ⌜ Ended (now (s .entry)) at r ⌝ }
@@ -181,8 +180,9 @@ fn ending(s: &[u8], at: usize) -> u32
     if s[start] == b'\n' {
         return answer(start, 0);
     }
+    // Where there is none, 0 is given, whatever stands at position 0.
     let target = number(s, start, LINE_NUMBERS, 1);
-    let end = place(target);
+    let end = position(target);
     if s.len() <= end {
         return 0;
     }
@@ -202,15 +202,15 @@ fn operands(s: &[u8], m: u16, o: u16, store: &mut [u16], at: usize) -> usize
     if d == 0 {
         return 0;
     }
-    let a = listed(s, place(d));
+    let a = listed(s, position(d));
     if a == 0 {
         return 0;
     }
-    let b = listed(s, place(a));
+    let b = listed(s, position(a));
     if b == 0 {
         return 0;
     }
-    let t = ending(s, place(b));
+    let t = ending(s, position(b));
     if t == 0 {
         return 0;
     }
@@ -230,12 +230,12 @@ fn operands(s: &[u8], m: u16, o: u16, store: &mut [u16], at: usize) -> usize
         target,
     };
     keep(store, at, line);
-    place(t) + 1
+    position(t) + 1
 }
 
 // The lesser of two.
 fn lesser(a: usize, b: usize) -> usize
-    ensures { λ r. ⌜ (r ≤ a) × (r ≤ b) ⌝ }
+    ensures { λ r. ⌜ (r ≡ cond (ltb a b) a b) × (r ≤ a) × (r ≤ b) ⌝ }
 {
     if a < b { a } else { b }
 }

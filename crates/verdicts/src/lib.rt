@@ -9,7 +9,7 @@ ghost use Rattle.model.specs.Images.{imageAt};
 ghost use Rattle.model.specs.Layouts.{neighbours};
 ghost use Rattle.model.specs.Limits.{lineWidth, maxLines, stateSize};
 ghost use Rattle.model.specs.Text.{fitted};
-ghost use Rattle.sets.specs.Walk.{setWidth, told, verdictReport};
+ghost use Rattle.sets.specs.Walk.{told, verdictReport};
 ghost use Rattle.verdicts.specs.Verdicts.{verdictBudget, imageSets, setsBefore, verdictText, verdictPrints};
 use lines::reader::read_lines;
 use lines::write_lines;

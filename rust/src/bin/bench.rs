@@ -231,10 +231,16 @@ fn texts() -> [f64; 2] {
         let program = stored(&text(count));
         measure(name, 1.0, &|on, memory| on.write(&program, &mut memory.bytes))
     };
+    // Into just enough room the bytes are counted first.
+    let write_tightly = |name: &str, count: usize| {
+        let (program, size) = (stored(&text(count)), text(count).len());
+        measure(name, 1.0, &|on, memory| on.write(&program, &mut memory.bytes[..size]))
+    };
     read("read, 16,384 lines", 16_384);
     let read_long = read("read, 1,024 lines", 1_024);
     let read_short = read("read, 256 lines", 256);
     write("write, 16,384 lines", 16_384);
+    write_tightly("write, 16,384 lines into just enough room", 16_384);
     let write_long = write("write, 1,024 lines", 1_024);
     let write_short = write("write, 256 lines", 256);
     [read_long / (4.0 * read_short), write_long / (4.0 * write_short)]

@@ -1,5 +1,4 @@
 -- `coding::is_shaped` meets its contract, by its tests. Assumes nothing.
-use mathlib.Core.Path.{_≡_}
 use borrow.Author.Tests.{eq-eqb, ne-eqb, lt-ltb, le-ltb}
 use Rattle.coding.specs.Fields.{shaped}
 use Rattle.coding.proofs.Shapes.{shape-tests}

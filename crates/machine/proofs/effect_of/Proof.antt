@@ -1,5 +1,5 @@
 -- `machine::effect_of` meets its contract: the parts of a step from what each call gives. Assumes nothing.
-use mathlib.Core.Path.{_≡_, refl, ap}
+use mathlib.Core.Path.{_≡_, refl}
 use mathlib.Core.List.{List}
 use Prim.Native.Nat.{ℕ}
 use lib.ListN.{getD}
@@ -8,7 +8,7 @@ use Rattle.model.specs.declared.Mark.{Mark}
 use Rattle.model.specs.declared.Opcode.{Opcode}
 use Rattle.model.specs.declared.Line.{Line}
 use Rattle.model.specs.Places.{State, place, address}
-use Rattle.model.specs.Stored.{opcodeOf, operandOf, lineOf}
+use Rattle.model.specs.Stored.{opcodeOf, lineOf}
 use Rattle.model.specs.Step.{weight, alu, result, row}
 use Rattle.machine.specs.declared.Arguments.{Arguments}
 use Rattle.machine.specs.declared.Effect.{Effect}

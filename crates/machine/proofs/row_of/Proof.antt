@@ -1,5 +1,4 @@
 -- `machine::row_of` meets its contract: weight and distance are the model's. Assumes nothing.
-use mathlib.Core.Path.{_≡_}
 use borrow.Author.Needs.{needs}
 use Rattle.machine.proofs.row_of.Statement.{statement}
 use Rattle.machine.proofs.row_of.Tie as tie

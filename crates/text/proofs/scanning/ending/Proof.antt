@@ -33,8 +33,8 @@ returns-4 c = ended-none (now (c .before .before .before .before .before .before
 number-requires : tie.Need-number-requires
 number-requires c κs = search needs
 
-place-requires : tie.Need-place-requires
-place-requires c κs = search needs
+position-requires : tie.Need-position-requires
+position-requires c κs = search needs
 
 returns-5 : tie.Need-returns-5
 returns-5 c = λ p. absurd (omega arith)
@@ -46,7 +46,7 @@ returns-6 : tie.Need-returns-6
 returns-6 c = λ p. absurd (omega arith)
 
 returns-7 : tie.Need-returns-7
-returns-7 c = ended-there (now (c .before .before .before .before .before .before .before .before .before .before .before .before .args .s)) (c .before .before .before .before .before .before .before .before .before .before .before .before .args .at) (c .before .before .before .before .before .before .before .before .before .before .if1 .left) (c .before .before .before .before .before .before .before .before .if2 .left) _ (c .before .before .before .before .number .result) (c .before .before .before .place .result) (c .before .before .before .place .ensures) (c .before .before .before .before .number .ensures) (c .before .before .if5 .left) (c .if6 .left)
+returns-7 c = ended-there (now (c .before .before .before .before .before .before .before .before .before .before .before .before .args .s)) (c .before .before .before .before .before .before .before .before .before .before .before .before .args .at) (c .before .before .before .before .before .before .before .before .before .before .if1 .left) (c .before .before .before .before .before .before .before .before .if2 .left) _ (c .before .before .before .before .number .result) (c .before .before .before .position .result) (c .before .before .before .position .ensures) (c .before .before .before .before .number .ensures) (c .before .before .if5 .left) (c .if6 .left)
 
 pub ending-spec : {M : Type 1} → statement M
 ending-spec =
@@ -61,7 +61,7 @@ ending-spec =
     answer-requires
     returns-4
     number-requires
-    place-requires
+    position-requires
     returns-5
     shared-slice-read-if6
     returns-6

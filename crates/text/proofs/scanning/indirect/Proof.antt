@@ -24,8 +24,8 @@ number-requires c κs = search needs
 returns-3 : tie.Need-returns-3
 returns-3 c = λ p. absurd (omega arith)
 
-place-requires : tie.Need-place-requires
-place-requires c κs = search needs
+position-requires : tie.Need-position-requires
+position-requires c κs = search needs
 
 returns-4 : tie.Need-returns-4
 returns-4 c = λ p. absurd (omega arith)
@@ -43,16 +43,16 @@ found-requires : tie.Need-found-requires
 found-requires c κs = search needs
 
 mul-number : tie.Need-mul-number
-mul-number c = omega (arith, base-product (now (c .before .before .before .before .before .before .before .before .before .before .before .args .s)) (c .before .before .before .before .before .before .before .before .before .before .before .args .at) (c .before .before .before .before .before .before .before .before .before .before .before .args .w) (c .before .before .before .before .before .before .before .before .before .before .before .args .more) (c .before .before .before .before .before .before .number .result) _ _ (c .before .before .before .before .before .before .number .ensures) (omega (arith, c .before .before .before .before .before .if3 .left)) (c .found .ensures) (c .before .before .before .before .place .ensures) (search needs))
+mul-number c = omega (arith, base-product (now (c .before .before .before .before .before .before .before .before .before .before .before .args .s)) (c .before .before .before .before .before .before .before .before .before .before .before .args .at) (c .before .before .before .before .before .before .before .before .before .before .before .args .w) (c .before .before .before .before .before .before .before .before .before .before .before .args .more) (c .before .before .before .before .before .before .number .result) _ _ (c .before .before .before .before .before .before .number .ensures) (omega (arith, c .before .before .before .before .before .if3 .left)) (c .found .ensures) (c .before .before .before .before .position .ensures) (search needs))
 
 add-number-3 : tie.Need-add-number-3
-add-number-3 c = omega (arith, base-product (now (c .before .before .before .before .before .before .before .before .before .before .before .args .s)) (c .before .before .before .before .before .before .before .before .before .before .before .args .at) (c .before .before .before .before .before .before .before .before .before .before .before .args .w) (c .before .before .before .before .before .before .before .before .before .before .before .args .more) (c .before .before .before .before .before .before .number .result) _ _ (c .before .before .before .before .before .before .number .ensures) (omega (arith, c .before .before .before .before .before .if3 .left)) (c .found .ensures) (c .before .before .before .before .place .ensures) (search needs))
+add-number-3 c = omega (arith, base-product (now (c .before .before .before .before .before .before .before .before .before .before .before .args .s)) (c .before .before .before .before .before .before .before .before .before .before .before .args .at) (c .before .before .before .before .before .before .before .before .before .before .before .args .w) (c .before .before .before .before .before .before .before .before .before .before .before .args .more) (c .before .before .before .before .before .before .number .result) _ _ (c .before .before .before .before .before .before .number .ensures) (omega (arith, c .before .before .before .before .before .if3 .left)) (c .found .ensures) (c .before .before .before .before .position .ensures) (search needs))
 
 number-requires-2 : tie.Need-number-requires-2
-number-requires-2 c κs = omega (arith, base-product (now (c .before .before .before .before .before .before .before .before .before .before .before .args .s)) (c .before .before .before .before .before .before .before .before .before .before .before .args .at) (c .before .before .before .before .before .before .before .before .before .before .before .args .w) (c .before .before .before .before .before .before .before .before .before .before .before .args .more) (c .before .before .before .before .before .before .number .result) _ _ (c .before .before .before .before .before .before .number .ensures) (omega (arith, c .before .before .before .before .before .if3 .left)) (c .found .ensures) (c .before .before .before .before .place .ensures) (search needs))
+number-requires-2 c κs = omega (arith, base-product (now (c .before .before .before .before .before .before .before .before .before .before .before .args .s)) (c .before .before .before .before .before .before .before .before .before .before .before .args .at) (c .before .before .before .before .before .before .before .before .before .before .before .args .w) (c .before .before .before .before .before .before .before .before .before .before .before .args .more) (c .before .before .before .before .before .before .number .result) _ _ (c .before .before .before .before .before .before .number .ensures) (omega (arith, c .before .before .before .before .before .if3 .left)) (c .found .ensures) (c .before .before .before .before .position .ensures) (search needs))
 
 returns-6 : tie.Need-returns-6
-returns-6 c = based-there (now (c .before .before .before .before .before .before .before .before .before .before .before .before .args .s)) (c .before .before .before .before .before .before .before .before .before .before .before .before .args .at) (c .before .before .before .before .before .before .before .before .before .before .before .before .args .w) (c .before .before .before .before .before .before .before .before .before .before .before .before .args .more) (c .before .before .before .before .before .before .before .number .result) _ _ (c .before .before .before .before .before .before .before .number .ensures) (omega (arith, c .before .before .before .before .before .before .if3 .left)) (c .before .found .ensures) (c .before .before .before .before .before .place .ensures) (c .before .before .before .before .before .before .before .before .before .before .if1 .left) (c .before .before .before .before .before .before .before .before .if2 .left) (c .before .before .before .before .if4 .left) (c .before .before .if5 .left) (c .number2 .result) (c .number2 .ensures)
+returns-6 c = based-there (now (c .before .before .before .before .before .before .before .before .before .before .before .before .args .s)) (c .before .before .before .before .before .before .before .before .before .before .before .before .args .at) (c .before .before .before .before .before .before .before .before .before .before .before .before .args .w) (c .before .before .before .before .before .before .before .before .before .before .before .before .args .more) (c .before .before .before .before .before .before .before .number .result) _ _ (c .before .before .before .before .before .before .before .number .ensures) (omega (arith, c .before .before .before .before .before .before .if3 .left)) (c .before .found .ensures) (c .before .before .before .before .before .position .ensures) (c .before .before .before .before .before .before .before .before .before .before .if1 .left) (c .before .before .before .before .before .before .before .before .if2 .left) (c .before .before .before .before .if4 .left) (c .before .before .if5 .left) (c .number2 .result) (c .number2 .ensures)
 
 pub indirect-spec : {M : Type 1} → statement M
 indirect-spec =
@@ -64,7 +64,7 @@ indirect-spec =
     add-number
     number-requires
     returns-3
-    place-requires
+    position-requires
     returns-4
     shared-slice-read-if5
     returns-5

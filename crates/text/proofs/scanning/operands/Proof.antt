@@ -16,8 +16,8 @@ listed-requires c κs = search needs
 returns : tie.Need-returns
 returns c = none-completed _ _ _ _ _
 
-place-requires : tie.Need-place-requires
-place-requires c κs = search needs
+position-requires : tie.Need-position-requires
+position-requires c κs = search needs
 
 listed-requires-2 : tie.Need-listed-requires-2
 listed-requires-2 c κs = search needs
@@ -25,8 +25,8 @@ listed-requires-2 c κs = search needs
 returns-2 : tie.Need-returns-2
 returns-2 c = none-completed _ _ _ _ _
 
-place-requires-2 : tie.Need-place-requires-2
-place-requires-2 c κs = search needs
+position-requires-2 : tie.Need-position-requires-2
+position-requires-2 c κs = search needs
 
 listed-requires-3 : tie.Need-listed-requires-3
 listed-requires-3 c κs = search needs
@@ -34,8 +34,8 @@ listed-requires-3 c κs = search needs
 returns-3 : tie.Need-returns-3
 returns-3 c = none-completed _ _ _ _ _
 
-place-requires-3 : tie.Need-place-requires-3
-place-requires-3 c κs = search needs
+position-requires-3 : tie.Need-position-requires-3
+position-requires-3 c κs = search needs
 
 ending-requires : tie.Need-ending-requires
 ending-requires c κs = search needs
@@ -64,8 +64,8 @@ returns-5 c = none-completed _ _ _ _ _
 keep-requires : tie.Need-keep-requires
 keep-requires c κs = search needs
 
-place-requires-4 : tie.Need-place-requires-4
-place-requires-4 c κs = search needs
+position-requires-4 : tie.Need-position-requires-4
+position-requires-4 c κs = search needs
 
 add-result : tie.Need-add-result
 add-result c = search needs
@@ -76,7 +76,7 @@ same-length c = search needs
 returns-6 : tie.Need-returns-6
 returns-6 c =
     let s = now (c .before .before .before .before .before .before .before .before .before .before .before .before .before .before .before .before .before .before .before .before .before .before .before .before .args .s) in
-    let end = ends s (c .before .before .before .before .before .before .before .before .before .before .before .before .before .place3 .result) (c .before .before .before .before .before .before .before .before .before .before .before .before .ending .result) (c .place4 .result) (c .before .before .before .before .before .before .before .found4 .result) (c .before .before .before .before .before .before .before .before .before .before .before .before .ending .ensures) (c .before .before .before .before .before .before .before .before .before .before .before .if4 .left) (c .place4 .ensures) (c .before .before .before .before .before .before .before .found4 .ensures) in (
+    let end = ends s (c .before .before .before .before .before .before .before .before .before .before .before .before .before .position3 .result) (c .before .before .before .before .before .before .before .before .before .before .before .before .ending .result) (c .position4 .result) (c .before .before .before .before .before .before .before .found4 .result) (c .before .before .before .before .before .before .before .before .before .before .before .before .ending .ensures) (c .before .before .before .before .before .before .before .before .before .before .before .if4 .left) (c .position4 .ensures) (c .before .before .before .before .before .before .before .found4 .ensures) in (
       (λ z. absurd (omega arith)),
       (λ p. record {
         destination = c .before .before .before .before .before .before .before .before .before .before .found .result;
@@ -87,10 +87,10 @@ returns-6 c =
         stored = c .before .before .before .keep .ensures;
         within = omega (arith, end .within);
         text =
-            all-stand s (c .before .before .before .before .before .before .before .before .before .before .found .result) (c .before .before .before .before .before .before .before .before .before .found2 .result) (c .before .before .before .before .before .before .before .before .found3 .result) (c .before .before .before .before .before .before .before .found4 .result) (c .before .before .before .before .before .before .before .before .before .before .before .before .before .before .before .before .before .before .before .place .result) (c .before .before .before .before .before .before .before .before .before .before .before .before .before .before .before .before .place2 .result) (c .before .before .before .before .before .before .before .before .before .before .before .before .before .place3 .result) (c .place4 .result)
-            (stands (λ k. comma ∷ spellOperand (operandOf k)) s 5 (c .before .before .before .before .before .before .before .before .before .before .before .before .before .before .before .before .before .before .before .before .before .listed .result) (c .before .before .before .before .before .before .before .before .before .before .before .before .before .before .before .before .before .before .before .place .result) (c .before .before .before .before .before .before .before .before .before .before .found .result) (c .before .before .before .before .before .before .before .before .before .before .before .before .before .before .before .before .before .before .before .before .before .listed .ensures) (c .before .before .before .before .before .before .before .before .before .before .before .before .before .before .before .before .before .before .before .before .if1 .left) (c .before .before .before .before .before .before .before .before .before .before .before .before .before .before .before .before .before .before .before .place .ensures) (c .before .before .before .before .before .before .before .before .before .before .found .ensures))
-            (stands (λ k. comma ∷ spellOperand (operandOf k)) s (c .before .before .before .before .before .before .before .before .before .before .before .before .before .before .before .before .before .before .before .place .result) (c .before .before .before .before .before .before .before .before .before .before .before .before .before .before .before .before .before .before .listed2 .result) (c .before .before .before .before .before .before .before .before .before .before .before .before .before .before .before .before .place2 .result) (c .before .before .before .before .before .before .before .before .before .found2 .result) (c .before .before .before .before .before .before .before .before .before .before .before .before .before .before .before .before .before .before .listed2 .ensures) (c .before .before .before .before .before .before .before .before .before .before .before .before .before .before .before .before .before .if2 .left) (c .before .before .before .before .before .before .before .before .before .before .before .before .before .before .before .before .place2 .ensures) (c .before .before .before .before .before .before .before .before .before .found2 .ensures))
-            (stands (λ k. comma ∷ spellOperand (operandOf k)) s (c .before .before .before .before .before .before .before .before .before .before .before .before .before .before .before .before .place2 .result) (c .before .before .before .before .before .before .before .before .before .before .before .before .before .before .before .listed3 .result) (c .before .before .before .before .before .before .before .before .before .before .before .before .before .place3 .result) (c .before .before .before .before .before .before .before .before .found3 .result) (c .before .before .before .before .before .before .before .before .before .before .before .before .before .before .before .listed3 .ensures) (c .before .before .before .before .before .before .before .before .before .before .before .before .before .before .if3 .left) (c .before .before .before .before .before .before .before .before .before .before .before .before .before .place3 .ensures) (c .before .before .before .before .before .before .before .before .found3 .ensures))
+            all-stand s (c .before .before .before .before .before .before .before .before .before .before .found .result) (c .before .before .before .before .before .before .before .before .before .found2 .result) (c .before .before .before .before .before .before .before .before .found3 .result) (c .before .before .before .before .before .before .before .found4 .result) (c .before .before .before .before .before .before .before .before .before .before .before .before .before .before .before .before .before .before .before .position .result) (c .before .before .before .before .before .before .before .before .before .before .before .before .before .before .before .before .position2 .result) (c .before .before .before .before .before .before .before .before .before .before .before .before .before .position3 .result) (c .position4 .result)
+            (stands (λ k. comma ∷ spellOperand (operandOf k)) s 5 (c .before .before .before .before .before .before .before .before .before .before .before .before .before .before .before .before .before .before .before .before .before .listed .result) (c .before .before .before .before .before .before .before .before .before .before .before .before .before .before .before .before .before .before .before .position .result) (c .before .before .before .before .before .before .before .before .before .before .found .result) (c .before .before .before .before .before .before .before .before .before .before .before .before .before .before .before .before .before .before .before .before .before .listed .ensures) (c .before .before .before .before .before .before .before .before .before .before .before .before .before .before .before .before .before .before .before .before .if1 .left) (c .before .before .before .before .before .before .before .before .before .before .before .before .before .before .before .before .before .before .before .position .ensures) (c .before .before .before .before .before .before .before .before .before .before .found .ensures))
+            (stands (λ k. comma ∷ spellOperand (operandOf k)) s (c .before .before .before .before .before .before .before .before .before .before .before .before .before .before .before .before .before .before .before .position .result) (c .before .before .before .before .before .before .before .before .before .before .before .before .before .before .before .before .before .before .listed2 .result) (c .before .before .before .before .before .before .before .before .before .before .before .before .before .before .before .before .position2 .result) (c .before .before .before .before .before .before .before .before .before .found2 .result) (c .before .before .before .before .before .before .before .before .before .before .before .before .before .before .before .before .before .before .listed2 .ensures) (c .before .before .before .before .before .before .before .before .before .before .before .before .before .before .before .before .before .if2 .left) (c .before .before .before .before .before .before .before .before .before .before .before .before .before .before .before .before .position2 .ensures) (c .before .before .before .before .before .before .before .before .before .found2 .ensures))
+            (stands (λ k. comma ∷ spellOperand (operandOf k)) s (c .before .before .before .before .before .before .before .before .before .before .before .before .before .before .before .before .position2 .result) (c .before .before .before .before .before .before .before .before .before .before .before .before .before .before .before .listed3 .result) (c .before .before .before .before .before .before .before .before .before .before .before .before .before .position3 .result) (c .before .before .before .before .before .before .before .before .found3 .result) (c .before .before .before .before .before .before .before .before .before .before .before .before .before .before .before .listed3 .ensures) (c .before .before .before .before .before .before .before .before .before .before .before .before .before .before .if3 .left) (c .before .before .before .before .before .before .before .before .before .before .before .before .before .position3 .ensures) (c .before .before .before .before .before .before .before .before .found3 .ensures))
             end;
       }),
     )
@@ -101,13 +101,13 @@ operands-spec =
     (tie.spec
     listed-requires
     returns
-    place-requires
+    position-requires
     listed-requires-2
     returns-2
-    place-requires-2
+    position-requires-2
     listed-requires-3
     returns-3
-    place-requires-3
+    position-requires-3
     ending-requires
     returns-4
     found-requires
@@ -117,7 +117,7 @@ operands-spec =
     fault-of-requires
     returns-5
     keep-requires
-    place-requires-4
+    position-requires-4
     add-result
     same-length
     returns-6)
