@@ -9,6 +9,7 @@ ghost use lib.Dec.{eqb, ltb};
 ghost use lib.ListN.{length, getD, set, drop};
 ghost use Rattle.model.specs.Limits.{stateSize, lineWidth, rowWidth};
 ghost use Rattle.model.specs.Stored.{operandOf};
+ghost use Rattle.machine.specs.Loop.{Weights};
 ghost use Rattle.sets.specs.Walk.{setWidth, maxValues, listed, listsOf, values, heads, base, draw, involved, sameRow};
 ghost use Rattle.choices.specs.Gathering.{lineBy, argumentPlaces, spot, gathered, visitedAll, Settled, Opens, allAt, alike, begun};
 use bytes::ROOM;
@@ -17,6 +18,7 @@ use bytes::is_several;
 use bytes::note;
 use bytes::size_of;
 use bytes::value_of;
+use machine::PLACES;
 use model::LINE_WIDTH;
 use model::ROW_WIDTH;
 use model::STATE_SIZE;
@@ -168,11 +170,21 @@ fn visit(
     state: &[u8],
     found: &mut [u8],
     leak: bool,
+    weights: &[u16; PLACES],
 ) -> bool
-    requires { ⌜ (length (now line) ≡ lineWidth) × (length (now row) ≡ rowWidth) × (length (now sets) ≡ setWidth * stateSize) × (now state ≡ heads (listsOf (now sets))) × (length (now found) ≡ suc setWidth) × (getD (now found) 0 0 ≤ maxValues) × Settled (listsOf (now sets)) (lineBy (now line)) argumentPlaces ⌝ }
+    requires { ⌜ (length (now line) ≡ lineWidth) × (length (now row) ≡ rowWidth) × (length (now sets) ≡ setWidth * stateSize) × (now state ≡ heads (listsOf (now sets))) × (length (now found) ≡ suc setWidth) × (getD (now found) 0 0 ≤ maxValues) × Settled (listsOf (now sets)) (lineBy (now line)) argumentPlaces × Weights (now weights) ⌝ }
     ensures { λ r. ⌜ (gathered (listed (now (found .exit))) r (now (row .exit)) ≡ visitedAll (lineBy (now (line .entry))) counter (gathered (listed (now (found .entry))) leak (now (row .entry))) (draw (listsOf (now (sets .entry))) (drop argumentPlaces (involved (lineBy (now (line .entry))))))) × (getD (now (found .exit)) 0 0 ≤ setWidth) ⌝ }
 {
-    let e = machine::effect_of(line[0], line[1], line[2], line[3], line[4], counter, state);
+    let e = machine::effect_of(
+        line[0],
+        line[1],
+        line[2],
+        line[3],
+        line[4],
+        counter,
+        state,
+        weights,
+    );
     let shown = e.row;
     keep_row(row, &shown, found[0] == 0);
     note(found, e.result);
@@ -207,7 +219,7 @@ fn value_beside(sets: &[u8], i: usize, first: u8, j: usize) -> u8
 }
 
 // The choices from place number `level` of the arguments on. Sets and state are left as they were. The stores' sizes stand in their types, so
-// that each call hands on five pointers and no lengths.
+// that each call hands on six pointers and no lengths.
 pub fn explore(
     line: &[u16; LINE_WIDTH],
     counter: u16,
@@ -217,8 +229,9 @@ pub fn explore(
     state: &mut [u8; STATE_SIZE],
     found: &mut [u8; ROOM],
     leak: bool,
+    weights: &[u16; PLACES],
 ) -> bool
-    requires { ⌜ (level ≤ argumentPlaces) × (now state ≡ heads (listsOf (now sets))) × (getD (now found) 0 0 ≤ setWidth) × Settled (listsOf (now sets)) (lineBy (now line)) level ⌝ }
+    requires { ⌜ (level ≤ argumentPlaces) × (now state ≡ heads (listsOf (now sets))) × (getD (now found) 0 0 ≤ setWidth) × Settled (listsOf (now sets)) (lineBy (now line)) level × Weights (now weights) ⌝ }
     ensures { λ r. ⌜ (gathered (listed (now (found .exit))) r (now (row .exit)) ≡ visitedAll (lineBy (now (line .entry))) counter (gathered (listed (now (found .entry))) leak (now (row .entry))) (draw (listsOf (now (sets .entry))) (drop level (involved (lineBy (now (line .entry))))))) × (getD (now (found .exit)) 0 0 ≤ setWidth) × (length (now (found .exit)) ≡ suc setWidth) ⌝ }
     ensures { λ r. ⌜ (now (sets .exit) ≡ now (sets .entry)) × (now (state .exit) ≡ now (state .entry)) ⌝ }
 {
@@ -228,7 +241,7 @@ pub fn explore(
     let open = next_open(line, level, sets, state);
     let at = open.at;
     if ARGUMENT_PLACES <= open.level {
-        return visit(line, counter, row, sets, state, found, leak);
+        return visit(line, counter, row, sets, state, found, leak, weights);
     }
     let count = sets[SET_WIDTH * at];
     let first = sets[SET_WIDTH * at + 1];
@@ -238,7 +251,17 @@ pub fn explore(
     while j < n {
         let value = value_beside(sets, at, first, j);
         narrow(sets, state, at, 1, value);
-        seen = explore(line, counter, row, open.level + 1, sets, state, found, seen);
+        seen = explore(
+            line,
+            counter,
+            row,
+            open.level + 1,
+            sets,
+            state,
+            found,
+            seen,
+            weights,
+        );
         j += 1;
     }
     narrow(sets, state, at, count, first);

@@ -253,7 +253,7 @@ const LOWEST: u8 = 1;
 const WHOLE: u8 = 255;
 
 // The places of a state, and the one past them, which is none.
-const PLACES: usize = STATE_SIZE + 1;
+pub const PLACES: usize = STATE_SIZE + 1;
 
 // What it keeps of a byte at a place.
 fn mask_at(i: usize) -> u8
@@ -327,31 +327,9 @@ fn address_weight(at: usize) -> u16
     0
 }
 
-// The row of a line: its number, the weight of the written value, its distance from the old one, and the addresses' weights, by the places of
-// the arguments and the destination.
-fn row_of(
-    line: u16,
-    old: u8,
-    result: u8,
-    first: usize,
-    second: usize,
-    destination: usize,
-) -> [u16; ROW_WIDTH]
-    ensures { λ r. ⌜ r ≡ rowOf line old result first second destination ⌝ }
-{
-    [
-        line,
-        weight(result as u16),
-        distance(old, result),
-        address_weight(first),
-        address_weight(second),
-        address_weight(destination),
-    ]
-}
-
-// The weights of the addresses of all places. A run makes them once too: not every processor has an instruction that counts ones, and a step
-// shows five weights.
-fn all_weights() -> [u16; PLACES]
+// The weights of the addresses of all places. A run and a walk make them once: not every processor has an instruction that counts ones, and a
+// step shows five weights.
+pub fn all_weights() -> [u16; PLACES]
     ensures { λ r. ⌜ Weights r ⌝ }
 {
     let mut weights = [0u16; PLACES];
@@ -371,8 +349,9 @@ fn byte_weight(weights: &[u16; PLACES], byte: u8) -> u16
     weights[32 + (byte as usize)]
 }
 
-// The same row by the table.
-fn tabled_row(
+// The row of a line: its number, the weight of the written value, its distance from the old one, and the addresses' weights, by the places of
+// the arguments and the destination.
+fn row_of(
     line: u16,
     old: u8,
     result: u8,
@@ -402,7 +381,17 @@ pub struct Effect {
 }
 
 // The effect of a line, whatever its target; nothing is written. `perform` below does not call it: a run would be twice as slow.
-pub fn effect_of(m: u16, o: u16, d: u16, a: u16, b: u16, counter: u16, state: &[u8]) -> Effect
+pub fn effect_of(
+    m: u16,
+    o: u16,
+    d: u16,
+    a: u16,
+    b: u16,
+    counter: u16,
+    state: &[u8],
+    weights: &[u16; PLACES],
+) -> Effect
+    requires { ⌜ Weights (now weights) ⌝ }
     ensures { λ r. ⌜ r ≡ effectOf (lineOf m o d a b 0) counter (now (state .entry)) ⌝ }
 {
     let mark = coding::mark_of(m);
@@ -412,7 +401,7 @@ pub fn effect_of(m: u16, o: u16, d: u16, a: u16, b: u16, counter: u16, state: &[
     let result = alu(mark, o, args.first, args.second);
     let at = place_at(d, state);
     let old = read(state, at);
-    let row = row_of(counter, old, result, x.at, y.at, at);
+    let row = row_of(counter, old, result, x.at, y.at, at, weights);
     Effect {
         result,
         place: at,
@@ -468,7 +457,7 @@ fn perform(
     let jumps = is_taken(o, args.first, args.second);
     let next = advanced(jumps, target_line(t), counter);
     let r = replace(d, result, state);
-    let row = tabled_row(counter, r.old, result, x.at, y.at, r.at, weights);
+    let row = row_of(counter, r.old, result, x.at, y.at, r.at, weights);
     Done { next, row }
 }
 

@@ -9,6 +9,7 @@ ghost use Rattle.model.specs.Limits.{stateSize, lineWidth, maxLines};
 ghost use Rattle.model.specs.Places.{kind};
 ghost use Rattle.model.specs.Step.{meaning};
 ghost use Rattle.model.specs.Stored.{operandOf, lineCount, lines};
+ghost use Rattle.machine.specs.Loop.{Weights};
 ghost use Rattle.sets.specs.Walk.{setWidth, maxValues, listed, listsOf, setsOf, sized, values, distinct, heads, branches, loose, unsettled, onto, walk, told, verdictReport};
 ghost use Rattle.sets.specs.Claims.{Full};
 ghost use Rattle.choices.specs.Gathering.{lineBy};
@@ -23,6 +24,7 @@ use choices::bytes::put_set;
 use choices::bytes::size_of;
 use choices::bytes::value_of;
 use choices::explore;
+use machine::PLACES;
 use model::Answer;
 use model::LINE_WIDTH;
 use model::Mark;
@@ -113,8 +115,9 @@ fn step(
     counter: u16,
     sets: &mut [u8; SETS_SIZE],
     state: &mut [u8; STATE_SIZE],
+    weights: &[u16; PLACES],
 ) -> Move
-    requires { ⌜ (counter < 65535) × (now state ≡ heads (listsOf (now sets))) × Full (listsOf (now sets)) ⌝ }
+    requires { ⌜ (counter < 65535) × (now state ≡ heads (listsOf (now sets))) × Full (listsOf (now sets)) × Weights (now weights) ⌝ }
     ensures { λ r. ⌜ r ≡ moves (listsOf (now (sets .entry))) (lineBy (now (line .entry))) counter ⌝ }
     ensures { λ r. ⌜ ((n : ℕ) → r ≡ To n → (listsOf (now (sets .exit)) ≡ onto (listsOf (now (sets .entry))) (lineBy (now (line .entry)))) × (now (state .exit) ≡ heads (listsOf (now (sets .exit))))) ⌝ }
 {
@@ -123,7 +126,17 @@ fn step(
     }
     let mut row = [0u16; ROW_WIDTH];
     let mut found = [0u8; ROOM];
-    let leak = explore(line, counter, &mut row, 0, sets, state, &mut found, false);
+    let leak = explore(
+        line,
+        counter,
+        &mut row,
+        0,
+        sets,
+        state,
+        &mut found,
+        false,
+        weights,
+    );
     if is_overfull(&found) {
         return Move::Refuses(22);
     }
@@ -148,6 +161,7 @@ fn walk_lines(
     requires { ⌜ (count ≡ lineCount (now program)) × (count ≤ maxLines) × (now state ≡ heads (listsOf (now sets))) × Full (listsOf (now sets)) ⌝ }
     ensures { λ r. ⌜ r ≡ walk (lines (now (program .entry))) budget 0 0 (listsOf (now (sets .entry))) ⌝ }
 {
+    let weights = machine::all_weights();
     let mut counter: u16 = 0;
     let mut steps: u16 = 0;
     while counter < count {
@@ -155,7 +169,7 @@ fn walk_lines(
             return Verdict::Spent { counter, steps };
         }
         let line = coding::numbers_at(program, counter as usize);
-        let moved = step(&line, counter, sets, state);
+        let moved = step(&line, counter, sets, state, &weights);
         match moved {
             Move::To(next) => {
                 counter = next;

@@ -26,14 +26,14 @@ use Rattle.choices.proofs.bytes.size_of.Reads as size-of-reads
 use Rattle.choices.proofs.+explore.{statement}
 use Rattle.choices.proofs.+explore.Tie.{close}
 
-abbrev μ-explore : Measures 5 explore-kinds.ps ℕ
+abbrev μ-explore : Measures 6 explore-kinds.ps ℕ
 μ-explore κs a = argumentPlaces - a .1 .1 .1 .0
 
-abbrev explore-at : ℕ → In 5 explore-kinds.ps
-explore-at t = and 5 explore-kinds.ps (is 5 explore-kinds.ps μ-explore t) explore.Pre
+abbrev explore-at : ℕ → In 6 explore-kinds.ps
+explore-at t = and 6 explore-kinds.ps (is 6 explore-kinds.ps μ-explore t) explore.Pre
 
-abbrev explore-below : ℕ → In 5 explore-kinds.ps
-explore-below t = and 5 explore-kinds.ps (falls 5 explore-kinds.ps _<_ μ-explore t) explore.Pre
+abbrev explore-below : ℕ → In 6 explore-kinds.ps
+explore-below t = and 6 explore-kinds.ps (falls 6 explore-kinds.ps _<_ μ-explore t) explore.Pre
 
 -- what the functions called promise, and this one of smaller measure
 abbrev claims : ℕ → explore-lts.Claims
@@ -55,12 +55,12 @@ claims t = (
 )
 
 abbrev explore-Inv-loop : explore-lts.InvT-loop
-explore-Inv-loop line counter row₀ level sets₀ state₀ found₀ leak «open» at count first n seen₀ j₀ row sets state found seen j =
+explore-Inv-loop line counter row₀ level sets₀ state₀ found₀ leak weights «open» at count first n seen₀ j₀ row sets state found seen j =
     (n ≡ length (values (listsOf sets₀) at)) × (getD found 0 0 ≤ setWidth) × (length found ≡ suc setWidth)
     × Turned (lineBy line) counter sets₀ state₀ level («open» .level) at (gathered (listed found₀) leak row₀) sets state (gathered (listed found) seen row) j
 
 abbrev explore-μ-loop : explore-lts.MeasureT-loop
-explore-μ-loop line counter row₀ level sets₀ state₀ found₀ leak «open» at count first n seen₀ j₀ row sets state found seen j = n - j
+explore-μ-loop line counter row₀ level sets₀ state₀ found₀ leak weights «open» at count first n seen₀ j₀ row sets state found seen j = n - j
 
 explore-is-overfull-requires : (t : ℕ) → explore-lts.Need-is-overfull-requires (claims t) (explore-at t) explore.Post explore-Inv-loop explore-μ-loop
 explore-is-overfull-requires t c κs =
@@ -93,7 +93,7 @@ explore-visit-requires t c κs =
     let i1 = c .before .before .before .before .before .before .before .before .before .before .before .before .before .before .before .if1 in
     let fa = c .before .before .before .before .before .before .before .before .before .before .before .before .before .before .before .before .before .is-overfull-arg2 in
     let z : o .result .level ≡ argumentPlaces = omega (arith, o .ensures .most, i2 .taken) in
-    (search needs, search needs, search needs, p .1 .1, search needs, omega (arith, ltb-false maxValues (length (listed (x .found .now))) (sym (f .ensures) ∙ i1 .left), listed-few (x .found .now) setWidth (fa .given .0) (p .1 .2)), rw z at (o .ensures .settled))
+    (search needs, search needs, search needs, p .1 .1, search needs, omega (arith, ltb-false maxValues (length (listed (x .found .now))) (sym (f .ensures) ∙ i1 .left), listed-few (x .found .now) setWidth (fa .given .0) (p .1 .2)), rw z at (o .ensures .settled), p .1 .4)
 
 explore-returns-2 : (t : ℕ) → explore-lts.Need-returns-2 (claims t) (explore-at t) explore.Post explore-Inv-loop explore-μ-loop
 explore-returns-2 t c =
@@ -215,6 +215,7 @@ explore-explore-requires t c κs =
         a .ensures .1 ∙ narrowed-state (lineBy (x .line .now)) (x .counter) (x .sets .now) (x .state .now) (x .level) (o .result .level) (o .result .at) (gathered (listed (x .found .now)) (x .leak) (x .row .now)) (sa .given .0) (p .1 .1) (o .ensures) (i2 .left) (m .sets) (m .state) (gathered (listed (m .found)) (m .seen) (m .row)) (m .j) (m .inv .3) v ∙ sym (ap (λ (b : List ℕ). heads (listsOf b)) (a .ensures .0)),
         m .inv .1,
         rw (a .ensures .0) (narrowed-settled (lineBy (x .line .now)) (x .counter) (x .sets .now) (x .state .now) (x .level) (o .result .level) (o .result .at) (gathered (listed (x .found .now)) (x .leak) (x .row .now)) (sa .given .0) (p .1 .1) (o .ensures) (i2 .left) (m .sets) (m .state) (gathered (listed (m .found)) (m .seen) (m .row)) (m .j) (m .inv .3) v),
+        p .1 .4,
       ),
     )
 

@@ -87,7 +87,7 @@ shared-slice-read-effect-of-5 : tie.Need-shared-slice-read-effect-of-5
 shared-slice-read-effect-of-5 c = search needs
 
 effect-of-requires : tie.Need-effect-of-requires
-effect-of-requires c κs = search needs
+effect-of-requires c κs = c .before .before .before .before .before .before .before .before .before .before .pre .7
 
 slice-aggregate-keep-row : tie.Need-slice-aggregate-keep-row
 slice-aggregate-keep-row c = search needs

@@ -14,7 +14,7 @@ use Rattle.machine.specs.declared.Arguments.{Arguments}
 use Rattle.machine.specs.declared.Effect.{Effect}
 use Rattle.machine.specs.declared.Fetched.{Fetched}
 use Rattle.machine.specs.Loop.{fetchOf, argumentsOf, addressAt, rowOf, effectOf}
-use Rattle.machine.proofs.NamedPlaces.{address-at, arguments-read}
+use Rattle.machine.proofs.NamedPlaces.{place-most, fetched-most, address-at, arguments-read}
 use Rattle.machine.proofs.effect_of.Statement.{statement}
 use Rattle.machine.proofs.effect_of.Tie as tie
 
@@ -62,7 +62,9 @@ read-requires : tie.Need-read-requires
 read-requires c κs = search needs
 
 row-of-requires : tie.Need-row-of-requires
-row-of-requires c κs = search needs
+row-of-requires c κs =
+    let s = c .before .before .before .before .before .before .before .before .args in
+    (c .before .before .before .before .before .before .before .before .pre, fetched-most (s .state .now) (s .a) _ (c .before .before .before .before .before .fetch .ensures), fetched-most (s .state .now) (s .b) _ (c .before .before .before .before .fetch2 .ensures), rw (c .before .place-at .ensures) (place-most (s .state .now) (s .d)))
 
 returns : tie.Need-returns
 returns c =

@@ -65,8 +65,8 @@ advanced-requires c κs = search needs
 replace-requires : tie.Need-replace-requires
 replace-requires c κs = search needs
 
-tabled-row-requires : tie.Need-tabled-row-requires
-tabled-row-requires c κs =
+row-of-requires : tie.Need-row-of-requires
+row-of-requires c κs =
     let s = c .before .before .before .before .before .before .before .before .before .before .before .before .before .before .before .args in
     (c .before .before .before .before .before .before .before .before .before .before .before .before .before .before .before .pre .2, fetched-most (s .state .now) (s .a) _ (c .before .before .before .before .before .before .before .before .before .before .before .fetch .ensures), fetched-most (s .state .now) (s .b) _ (c .before .before .before .before .before .before .before .before .before .fetch2 .ensures), rw (c .before .before .replace .ensures .0 .0) (place-most (s .state .now) (s .d)))
 
@@ -87,11 +87,11 @@ returns c =
     let s = m .before .before in
     performed (lineOf (s .args .m) (s .args .o) (s .args .d) (s .args .a) (s .args .b) (s .args .t)) (s .args .counter) (s .args .state .now) _
     (m .mark-of .result) (opcodeOf (s .args .o)) (j .is-taken .result) (x .fetch .result) (y .fetch2 .result) (z .mask-arguments .result)
-    (w .replace .result .at) _ _ _ _ (c .tabled-row .result)
+    (w .replace .result .at) _ _ _ _ (c .row-of .result)
     (m .mark-of .ensures) refl (x .fetch .ensures) (y .fetch2 .ensures) (z .mask-arguments .ensures)
     (r .alu .ensures) (j .is-taken .ensures) (g .target-line .ensures) (n .advanced .ensures)
     (w .replace .ensures .0 .0) (w .replace .ensures .0 .1) (w .replace .ensures .1)
-    (address-at _ (s .args .a)) (address-at _ (s .args .b)) (address-at _ (s .args .d)) (c .tabled-row .ensures)
+    (address-at _ (s .args .a)) (address-at _ (s .args .b)) (address-at _ (s .args .d)) (c .row-of .ensures)
 
 pub perform-spec : {M : Type 1} → statement M
 perform-spec =
@@ -106,6 +106,6 @@ perform-spec =
     target-line-requires
     advanced-requires
     replace-requires
-    tabled-row-requires
+    row-of-requires
     same-length
     returns)

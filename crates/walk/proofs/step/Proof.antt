@@ -38,7 +38,7 @@ explore-requires c κs =
     let x = c .before .before .before .before .before .before .before .before .before .before .before .args in
     let u = c .before .before .before .before .before .is-unsettled in
     let i1 = c .before .before .before .before .if1 in
-    (omega arith, p .1, omega arith, settled-none (listsOf (x .sets .now)) (lineBy (x .line .now)) (p .2) (sym (u .ensures) ∙ i1 .left))
+    (omega arith, p .1, omega arith, settled-none (listsOf (x .sets .now)) (lineBy (x .line .now)) (p .2) (sym (u .ensures) ∙ i1 .left), p .3)
 
 slice-aggregate-is-overfull : tie.Need-slice-aggregate-is-overfull
 slice-aggregate-is-overfull c = search needs

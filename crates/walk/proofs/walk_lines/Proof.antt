@@ -15,23 +15,26 @@ use Rattle.walk.proofs.walk_lines.Statement.{statement}
 use Rattle.walk.proofs.walk_lines.Tie as tie
 
 abbrev Inv-loop : tie.InvT-loop
-Inv-loop program count budget sets₀ state₀ counter₀ steps₀ sets state counter steps =
+Inv-loop program count budget sets₀ state₀ weights counter₀ steps₀ sets state counter steps =
     (steps ≤ budget) × (state ≡ heads (listsOf sets)) × Full (listsOf sets)
     × (walk (lines program) (budget - steps) counter steps (listsOf sets) ≡ walk (lines program) budget 0 0 (listsOf sets₀))
 
 abbrev μ-loop : tie.MeasureT-loop
-μ-loop program count budget sets₀ state₀ counter₀ steps₀ sets state counter steps = budget - steps
+μ-loop program count budget sets₀ state₀ weights counter₀ steps₀ sets state counter steps = budget - steps
+
+all-weights-requires : tie.Need-all-weights-requires Inv-loop μ-loop
+all-weights-requires c κs = search needs
 
 loop-holds : tie.Need-loop-holds Inv-loop μ-loop
 loop-holds c =
-    let p = c .before .pre in
+    let p = c .before .before .pre in
     (omega arith, p .2, p .3, begins _ _ _)
 
 returns : tie.Need-returns Inv-loop μ-loop
 returns c =
-    let x = c .before .before .before .before .args in
+    let x = c .before .before .before .before .before .args in
     let m = c .before .before .loop in
-    let p = c .before .before .before .before .pre in
+    let p = c .before .before .before .before .before .pre in
     let t = c .before .loop-test in
     let i1 = c .if1 in
     spends (x .program .now) (m .counter) (m .steps) (x .budget) (listsOf (m .sets)) (omega (arith, p .0, t .taken)) (i1 .taken) ∙ m .inv .3
@@ -44,10 +47,10 @@ numbers-at-requires c κs = search needs
 
 step-requires : tie.Need-step-requires Inv-loop μ-loop
 step-requires c κs =
-    let p = c .before .before .before .before .before .before .before .before .pre in
-    let t = c .before .before .before .before .before .loop-test in
-    let m = c .before .before .before .before .before .before .loop in
-    (omega (arith, p .1, t .taken), m .inv .1, m .inv .2)
+    let p = c .before .before .before .before .before .before .before .before .before .before .pre in
+    let t = c .before .before .before .before .before .before .loop-test in
+    let m = c .before .before .before .before .before .before .before .loop in
+    (omega (arith, p .1, t .taken), m .inv .1, m .inv .2, c .before .before .before .before .before .before .before .before .all-weights .ensures)
 
 enum-known-moved : tie.Need-enum-known-moved Inv-loop μ-loop
 enum-known-moved c = search needs
@@ -61,13 +64,13 @@ loop-less c = search needs
 loop-again : tie.Need-loop-again Inv-loop μ-loop
 loop-again c =
     let f = c .before .before .before .step in
-    let m = c .before .before .before .before .before .before .before .before .before .before .loop in
-    let n = c .before .before .before .before .before .before .before .numbers-at in
+    let m = c .before .before .before .before .before .before .before .before .before .before .before .loop in
+    let n = c .before .before .before .before .before .before .before .before .numbers-at in
     let d = c .before .moved in
-    let i1 = c .before .before .before .before .before .before .before .before .if1 in
-    let x = c .before .before .before .before .before .before .before .before .before .before .before .before .args in
-    let p = c .before .before .before .before .before .before .before .before .before .before .before .before .pre in
-    let t = c .before .before .before .before .before .before .before .before .before .loop-test in
+    let i1 = c .before .before .before .before .before .before .before .before .before .if1 in
+    let x = c .before .before .before .before .before .before .before .before .before .before .before .before .before .before .args in
+    let p = c .before .before .before .before .before .before .before .before .before .before .before .before .before .before .pre in
+    let t = c .before .before .before .before .before .before .before .before .before .before .loop-test in
     let e = (f .ensures .0 ∙ ap (λ (a : List ℕ). moves (listsOf (m .sets)) (lineBy a) (m .counter)) (n .ensures)) in
     let w = f .ensures .1 (d .given .0 .0) (d .given .1) in
     let s = w .0 ∙ ap (λ (a : List ℕ). onto (listsOf (m .sets)) (lineBy a)) (n .ensures) in (
@@ -82,14 +85,14 @@ enum-told c = search needs
 
 returns-2 : tie.Need-returns-2 Inv-loop μ-loop
 returns-2 c =
-    let x = c .before .before .before .before .before .before .before .before .before .before .before .args in
-    let m = c .before .before .before .before .before .before .before .before .before .loop in
-    let p = c .before .before .before .before .before .before .before .before .before .before .before .pre in
-    let t = c .before .before .before .before .before .before .before .before .loop-test in
-    let i1 = c .before .before .before .before .before .before .before .if1 in
+    let x = c .before .before .before .before .before .before .before .before .before .before .before .before .before .args in
+    let m = c .before .before .before .before .before .before .before .before .before .before .loop in
+    let p = c .before .before .before .before .before .before .before .before .before .before .before .before .before .pre in
+    let t = c .before .before .before .before .before .before .before .before .before .loop-test in
+    let i1 = c .before .before .before .before .before .before .before .before .if1 in
     let g = c .enum-told in
     let f = c .before .before .step in
-    let n = c .before .before .before .before .before .before .numbers-at in
+    let n = c .before .before .before .before .before .before .before .numbers-at in
     ends (x .program .now) (m .counter) (m .steps) (x .budget) (listsOf (m .sets)) (omega (arith, p .0, t .taken)) (i1 .left) _ _ (sym (g .given .1) ∙ (f .ensures .0 ∙ ap (λ (a : List ℕ). moves (listsOf (m .sets)) (lineBy a) (m .counter)) (n .ensures))) refl ∙ m .inv .3
 
 enum-known-moved-2 : tie.Need-enum-known-moved-2 Inv-loop μ-loop
@@ -97,21 +100,21 @@ enum-known-moved-2 c = search needs
 
 returns-3 : tie.Need-returns-3 Inv-loop μ-loop
 returns-3 c =
-    let x = c .before .before .before .before .before .before .before .before .before .before .before .before .args in
-    let m = c .before .before .before .before .before .before .before .before .before .before .loop in
-    let p = c .before .before .before .before .before .before .before .before .before .before .before .before .pre in
-    let t = c .before .before .before .before .before .before .before .before .before .loop-test in
-    let i1 = c .before .before .before .before .before .before .before .before .if1 in
+    let x = c .before .before .before .before .before .before .before .before .before .before .before .before .before .before .args in
+    let m = c .before .before .before .before .before .before .before .before .before .before .before .loop in
+    let p = c .before .before .before .before .before .before .before .before .before .before .before .before .before .before .pre in
+    let t = c .before .before .before .before .before .before .before .before .before .before .loop-test in
+    let i1 = c .before .before .before .before .before .before .before .before .before .if1 in
     let d = c .before .moved2 in
     let f = c .before .before .before .step in
-    let n = c .before .before .before .before .before .before .before .numbers-at in
+    let n = c .before .before .before .before .before .before .before .before .numbers-at in
     ends (x .program .now) (m .counter) (m .steps) (x .budget) (listsOf (m .sets)) (omega (arith, p .0, t .taken)) (i1 .left) _ _ (sym (d .given .1) ∙ (f .ensures .0 ∙ ap (λ (a : List ℕ). moves (listsOf (m .sets)) (lineBy a) (m .counter)) (n .ensures))) refl ∙ m .inv .3
 
 returns-4 : tie.Need-returns-4 Inv-loop μ-loop
 returns-4 c =
-    let x = c .before .before .before .args in
+    let x = c .before .before .before .before .args in
     let m = c .before .loop in
-    let p = c .before .before .before .pre in
+    let p = c .before .before .before .before .pre in
     let t = c .loop-test in
     balances (x .program .now) (m .counter) (m .steps) (x .budget) (listsOf (m .sets)) (omega (arith, p .0, t .left)) ∙ m .inv .3
 
@@ -121,6 +124,7 @@ walk-lines-spec =
     (tie.spec
     Inv-loop
     μ-loop
+    all-weights-requires
     loop-holds
     returns
     cast-numbers-at
