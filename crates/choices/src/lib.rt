@@ -240,7 +240,8 @@ pub fn explore(
     }
     let open = next_open(line, level, sets, state);
     let at = open.at;
-    if ARGUMENT_PLACES <= open.level {
+    let k = open.level;
+    if ARGUMENT_PLACES <= k {
         return visit(line, counter, row, sets, state, found, leak, weights);
     }
     let count = sets[SET_WIDTH * at];
@@ -251,17 +252,7 @@ pub fn explore(
     while j < n {
         let value = value_beside(sets, at, first, j);
         narrow(sets, state, at, 1, value);
-        seen = explore(
-            line,
-            counter,
-            row,
-            open.level + 1,
-            sets,
-            state,
-            found,
-            seen,
-            weights,
-        );
+        seen = explore(line, counter, row, k + 1, sets, state, found, seen, weights);
         j += 1;
     }
     narrow(sets, state, at, count, first);

@@ -55,12 +55,12 @@ claims t = (
 )
 
 abbrev explore-Inv-loop : explore-lts.InvT-loop
-explore-Inv-loop line counter row₀ level sets₀ state₀ found₀ leak weights «open» at count first n seen₀ j₀ row sets state found seen j =
+explore-Inv-loop line counter row₀ level sets₀ state₀ found₀ leak weights at k count first n seen₀ j₀ row sets state found seen j =
     (n ≡ length (values (listsOf sets₀) at)) × (getD found 0 0 ≤ setWidth) × (length found ≡ suc setWidth)
-    × Turned (lineBy line) counter sets₀ state₀ level («open» .level) at (gathered (listed found₀) leak row₀) sets state (gathered (listed found) seen row) j
+    × Turned (lineBy line) counter sets₀ state₀ level k at (gathered (listed found₀) leak row₀) sets state (gathered (listed found) seen row) j
 
 abbrev explore-μ-loop : explore-lts.MeasureT-loop
-explore-μ-loop line counter row₀ level sets₀ state₀ found₀ leak weights «open» at count first n seen₀ j₀ row sets state found seen j = n - j
+explore-μ-loop line counter row₀ level sets₀ state₀ found₀ leak weights at k count first n seen₀ j₀ row sets state found seen j = n - j
 
 explore-is-overfull-requires : (t : ℕ) → explore-lts.Need-is-overfull-requires (claims t) (explore-at t) explore.Post explore-Inv-loop explore-μ-loop
 explore-is-overfull-requires t c κs =
@@ -85,23 +85,23 @@ explore-next-open-requires t c κs =
 
 explore-visit-requires : (t : ℕ) → explore-lts.Need-visit-requires (claims t) (explore-at t) explore.Post explore-Inv-loop explore-μ-loop
 explore-visit-requires t c κs =
-    let o = c .before .before .before .before .before .before .before .before .before .next-open in
+    let o = c .before .before .before .before .before .before .before .before .next-open in
     let i2 = c .before .before .before .before .before .before .before .if2 in
-    let p = c .before .before .before .before .before .before .before .before .before .before .before .before .before .before .before .before .before .before .before .pre in
-    let x = c .before .before .before .before .before .before .before .before .before .before .before .before .before .before .before .before .before .before .before .args in
-    let f = c .before .before .before .before .before .before .before .before .before .before .before .before .before .before .before .before .is-overfull in
-    let i1 = c .before .before .before .before .before .before .before .before .before .before .before .before .before .before .before .if1 in
-    let fa = c .before .before .before .before .before .before .before .before .before .before .before .before .before .before .before .before .before .is-overfull-arg2 in
+    let p = c .before .before .before .before .before .before .before .before .before .before .before .before .before .before .before .before .before .before .pre in
+    let x = c .before .before .before .before .before .before .before .before .before .before .before .before .before .before .before .before .before .before .args in
+    let f = c .before .before .before .before .before .before .before .before .before .before .before .before .before .before .before .is-overfull in
+    let i1 = c .before .before .before .before .before .before .before .before .before .before .before .before .before .before .if1 in
+    let fa = c .before .before .before .before .before .before .before .before .before .before .before .before .before .before .before .before .is-overfull-arg2 in
     let z : o .result .level ≡ argumentPlaces = omega (arith, o .ensures .most, i2 .taken) in
     (search needs, search needs, search needs, p .1 .1, search needs, omega (arith, ltb-false maxValues (length (listed (x .found .now))) (sym (f .ensures) ∙ i1 .left), listed-few (x .found .now) setWidth (fa .given .0) (p .1 .2)), rw z at (o .ensures .settled), p .1 .4)
 
 explore-returns-2 : (t : ℕ) → explore-lts.Need-returns-2 (claims t) (explore-at t) explore.Post explore-Inv-loop explore-μ-loop
 explore-returns-2 t c =
-    let o = c .before .before .before .before .before .before .before .before .before .before .next-open in
+    let o = c .before .before .before .before .before .before .before .before .before .next-open in
     let i2 = c .before .before .before .before .before .before .before .before .if2 in
-    let x = c .before .before .before .before .before .before .before .before .before .before .before .before .before .before .before .before .before .before .before .before .args in
+    let x = c .before .before .before .before .before .before .before .before .before .before .before .before .before .before .before .before .before .before .before .args in
     let u = c .visit in
-    let fa = c .before .before .before .before .before .before .before .before .before .before .before .before .before .before .before .before .before .before .is-overfull-arg2 in
+    let fa = c .before .before .before .before .before .before .before .before .before .before .before .before .before .before .before .before .before .is-overfull-arg2 in
     let z : o .result .level ≡ argumentPlaces = omega (arith, o .ensures .most, i2 .taken) in
     let l = lineBy (x .line .now) in
     let S = listsOf (x .sets .now) in (
@@ -115,46 +115,46 @@ explore-returns-2 t c =
 
 explore-mul-count : (t : ℕ) → explore-lts.Need-mul-count (claims t) (explore-at t) explore.Post explore-Inv-loop explore-μ-loop
 explore-mul-count t c =
-    let x = c .before .before .before .before .before .before .before .before .before .before .before .before .args in
-    let o = c .before .before .next-open in
-    let sa = c .before .before .before .before .before .next-open-arg3 in
-    let p = c .before .before .before .before .before .before .before .before .before .before .before .before .pre in
+    let x = c .before .before .before .before .before .before .before .before .before .before .before .args in
+    let o = c .before .next-open in
+    let sa = c .before .before .before .before .next-open-arg3 in
+    let p = c .before .before .before .before .before .before .before .before .before .before .before .pre in
     let i2 = c .if2 in
     omega (arith, within (lineBy (x .line .now)) (x .counter) (x .sets .now) (x .state .now) (x .level) (o .result .level) (o .result .at) (gathered (listed (x .found .now)) (x .leak) (x .row .now)) (sa .given .0) (p .1 .1) (o .ensures) (i2 .left))
 
 explore-element-copy-out-count : (t : ℕ) → explore-lts.Need-element-copy-out-count (claims t) (explore-at t) explore.Post explore-Inv-loop explore-μ-loop
 explore-element-copy-out-count t c =
-    let x = c .before .before .before .before .before .before .before .before .before .before .before .before .args in
-    let o = c .before .before .next-open in
-    let sa = c .before .before .before .before .before .next-open-arg3 in
-    let p = c .before .before .before .before .before .before .before .before .before .before .before .before .pre in
+    let x = c .before .before .before .before .before .before .before .before .before .before .before .args in
+    let o = c .before .next-open in
+    let sa = c .before .before .before .before .next-open-arg3 in
+    let p = c .before .before .before .before .before .before .before .before .before .before .before .pre in
     let i2 = c .if2 in
     omega (arith, within (lineBy (x .line .now)) (x .counter) (x .sets .now) (x .state .now) (x .level) (o .result .level) (o .result .at) (gathered (listed (x .found .now)) (x .leak) (x .row .now)) (sa .given .0) (p .1 .1) (o .ensures) (i2 .left))
 
 explore-mul-first : (t : ℕ) → explore-lts.Need-mul-first (claims t) (explore-at t) explore.Post explore-Inv-loop explore-μ-loop
 explore-mul-first t c =
-    let x = c .before .before .before .before .before .before .before .before .before .before .before .before .before .args in
-    let o = c .before .before .before .next-open in
-    let sa = c .before .before .before .before .before .before .next-open-arg3 in
-    let p = c .before .before .before .before .before .before .before .before .before .before .before .before .before .pre in
+    let x = c .before .before .before .before .before .before .before .before .before .before .before .before .args in
+    let o = c .before .before .next-open in
+    let sa = c .before .before .before .before .before .next-open-arg3 in
+    let p = c .before .before .before .before .before .before .before .before .before .before .before .before .pre in
     let i2 = c .before .if2 in
     omega (arith, within (lineBy (x .line .now)) (x .counter) (x .sets .now) (x .state .now) (x .level) (o .result .level) (o .result .at) (gathered (listed (x .found .now)) (x .leak) (x .row .now)) (sa .given .0) (p .1 .1) (o .ensures) (i2 .left))
 
 explore-add-first : (t : ℕ) → explore-lts.Need-add-first (claims t) (explore-at t) explore.Post explore-Inv-loop explore-μ-loop
 explore-add-first t c =
-    let x = c .before .before .before .before .before .before .before .before .before .before .before .before .before .args in
-    let o = c .before .before .before .next-open in
-    let sa = c .before .before .before .before .before .before .next-open-arg3 in
-    let p = c .before .before .before .before .before .before .before .before .before .before .before .before .before .pre in
+    let x = c .before .before .before .before .before .before .before .before .before .before .before .before .args in
+    let o = c .before .before .next-open in
+    let sa = c .before .before .before .before .before .next-open-arg3 in
+    let p = c .before .before .before .before .before .before .before .before .before .before .before .before .pre in
     let i2 = c .before .if2 in
     omega (arith, within (lineBy (x .line .now)) (x .counter) (x .sets .now) (x .state .now) (x .level) (o .result .level) (o .result .at) (gathered (listed (x .found .now)) (x .leak) (x .row .now)) (sa .given .0) (p .1 .1) (o .ensures) (i2 .left))
 
 explore-element-copy-out-first : (t : ℕ) → explore-lts.Need-element-copy-out-first (claims t) (explore-at t) explore.Post explore-Inv-loop explore-μ-loop
 explore-element-copy-out-first t c =
-    let x = c .before .before .before .before .before .before .before .before .before .before .before .before .before .args in
-    let o = c .before .before .before .next-open in
-    let sa = c .before .before .before .before .before .before .next-open-arg3 in
-    let p = c .before .before .before .before .before .before .before .before .before .before .before .before .before .pre in
+    let x = c .before .before .before .before .before .before .before .before .before .before .before .before .args in
+    let o = c .before .before .next-open in
+    let sa = c .before .before .before .before .before .next-open-arg3 in
+    let p = c .before .before .before .before .before .before .before .before .before .before .before .before .pre in
     let i2 = c .before .if2 in
     omega (arith, within (lineBy (x .line .now)) (x .counter) (x .sets .now) (x .state .now) (x .level) (o .result .level) (o .result .at) (gathered (listed (x .found .now)) (x .leak) (x .row .now)) (sa .given .0) (p .1 .1) (o .ensures) (i2 .left))
 
@@ -164,20 +164,20 @@ explore-size-of-requires t c κs = search needs
 explore-loop-holds : (t : ℕ) → explore-lts.Need-loop-holds (claims t) (explore-at t) explore.Post explore-Inv-loop explore-μ-loop
 explore-loop-holds t c =
     let z0 = c .size-of in
-    let p = c .before .before .before .before .before .before .before .before .before .before .before .before .before .before .before .before .before .pre in
-    let fa = c .before .before .before .before .before .before .before .before .before .before .before .before .before .before .before .is-overfull-arg2 in
-    let x = c .before .before .before .before .before .before .before .before .before .before .before .before .before .before .before .before .before .args in
-    let o = c .before .before .before .before .before .before .before .next-open in
-    let sa = c .before .before .before .before .before .before .before .before .before .before .next-open-arg3 in
+    let p = c .before .before .before .before .before .before .before .before .before .before .before .before .before .before .before .before .pre in
+    let fa = c .before .before .before .before .before .before .before .before .before .before .before .before .before .before .is-overfull-arg2 in
+    let x = c .before .before .before .before .before .before .before .before .before .before .before .before .before .before .before .before .args in
+    let o = c .before .before .before .before .before .before .next-open in
+    let sa = c .before .before .before .before .before .before .before .before .before .next-open-arg3 in
     let i2 = c .before .before .before .before .before .if2 in
     (z0 .ensures, p .1 .2, fa .given .0, turned-none (lineBy (x .line .now)) (x .counter) (x .sets .now) (x .state .now) (x .level) (o .result .level) (o .result .at) (gathered (listed (x .found .now)) (x .leak) (x .row .now)) (sa .given .0) (p .1 .1) (o .ensures) (i2 .left))
 
 explore-value-beside-requires : (t : ℕ) → explore-lts.Need-value-beside-requires (claims t) (explore-at t) explore.Post explore-Inv-loop explore-μ-loop
 explore-value-beside-requires t c κs =
-    let x = c .before .before .before .before .before .before .before .before .before .before .before .before .before .before .before .before .before .before .before .before .before .args in
-    let o = c .before .before .before .before .before .before .before .before .before .before .before .next-open in
-    let sa = c .before .before .before .before .before .before .before .before .before .before .before .before .before .before .next-open-arg3 in
-    let p = c .before .before .before .before .before .before .before .before .before .before .before .before .before .before .before .before .before .before .before .before .before .pre in
+    let x = c .before .before .before .before .before .before .before .before .before .before .before .before .before .before .before .before .before .before .before .before .args in
+    let o = c .before .before .before .before .before .before .before .before .before .before .next-open in
+    let sa = c .before .before .before .before .before .before .before .before .before .before .before .before .before .next-open-arg3 in
+    let p = c .before .before .before .before .before .before .before .before .before .before .before .before .before .before .before .before .before .before .before .before .pre in
     let i2 = c .before .before .before .before .before .before .before .before .before .if2 in
     let m = c .before .before .before .loop in
     let w = c .before .before .loop-test in
@@ -185,29 +185,29 @@ explore-value-beside-requires t c κs =
 
 explore-narrow-requires : (t : ℕ) → explore-lts.Need-narrow-requires (claims t) (explore-at t) explore.Post explore-Inv-loop explore-μ-loop
 explore-narrow-requires t c κs =
-    let x = c .before .before .before .before .before .before .before .before .before .before .before .before .before .before .before .before .before .before .before .before .before .before .before .before .args in
-    let o = c .before .before .before .before .before .before .before .before .before .before .before .before .before .before .next-open in
-    let sa = c .before .before .before .before .before .before .before .before .before .before .before .before .before .before .before .before .before .next-open-arg3 in
-    let p = c .before .before .before .before .before .before .before .before .before .before .before .before .before .before .before .before .before .before .before .before .before .before .before .before .pre in
+    let x = c .before .before .before .before .before .before .before .before .before .before .before .before .before .before .before .before .before .before .before .before .before .before .before .args in
+    let o = c .before .before .before .before .before .before .before .before .before .before .before .before .before .next-open in
+    let sa = c .before .before .before .before .before .before .before .before .before .before .before .before .before .before .before .before .next-open-arg3 in
+    let p = c .before .before .before .before .before .before .before .before .before .before .before .before .before .before .before .before .before .before .before .before .before .before .before .pre in
     let i2 = c .before .before .before .before .before .before .before .before .before .before .before .before .if2 in
     let m = c .before .before .before .before .before .before .loop in
     (same-size (lineBy (x .line .now)) (x .counter) (x .sets .now) (x .state .now) (x .level) (o .result .level) (o .result .at) (gathered (listed (x .found .now)) (x .leak) (x .row .now)) (sa .given .0) (p .1 .1) (o .ensures) (i2 .left) (m .sets) (m .state) (gathered (listed (m .found)) (m .seen) (m .row)) (m .j) (m .inv .3), same-state-size (lineBy (x .line .now)) (x .counter) (x .sets .now) (x .state .now) (x .level) (o .result .level) (o .result .at) (gathered (listed (x .found .now)) (x .leak) (x .row .now)) (sa .given .0) (p .1 .1) (o .ensures) (i2 .left) (m .sets) (m .state) (gathered (listed (m .found)) (m .seen) (m .row)) (m .j) (m .inv .3), within (lineBy (x .line .now)) (x .counter) (x .sets .now) (x .state .now) (x .level) (o .result .level) (o .result .at) (gathered (listed (x .found .now)) (x .leak) (x .row .now)) (sa .given .0) (p .1 .1) (o .ensures) (i2 .left))
 
 explore-add-explore : (t : ℕ) → explore-lts.Need-add-explore (claims t) (explore-at t) explore.Post explore-Inv-loop explore-μ-loop
 explore-add-explore t c =
-    let i2 = c .before .before .before .before .before .before .before .before .before .before .before .before .before .before .before .if2 in
+    let i2 = c .before .before .before .before .before .before .before .before .before .before .before .before .before .before .if2 in
     omega (arith, i2 .left)
 
 explore-explore-requires : (t : ℕ) → explore-lts.Need-explore-requires (claims t) (explore-at t) explore.Post explore-Inv-loop explore-μ-loop
 explore-explore-requires t c κs =
-    let v0 = c .before .before .before .before .before .before .before .before .value-beside in
-    let p = c .before .before .before .before .before .before .before .before .before .before .before .before .before .before .before .before .before .before .before .before .before .before .before .before .before .before .before .before .before .before .pre in
-    let o = c .before .before .before .before .before .before .before .before .before .before .before .before .before .before .before .before .before .before .before .before .next-open in
-    let i2 = c .before .before .before .before .before .before .before .before .before .before .before .before .before .before .before .before .before .before .if2 in
-    let a = c .before .before .before .before .before .narrow in
-    let x = c .before .before .before .before .before .before .before .before .before .before .before .before .before .before .before .before .before .before .before .before .before .before .before .before .before .before .before .before .before .before .args in
-    let sa = c .before .before .before .before .before .before .before .before .before .before .before .before .before .before .before .before .before .before .before .before .before .before .before .next-open-arg3 in
-    let m = c .before .before .before .before .before .before .before .before .before .before .before .before .loop in
+    let v0 = c .before .before .before .before .before .before .before .value-beside in
+    let p = c .before .before .before .before .before .before .before .before .before .before .before .before .before .before .before .before .before .before .before .before .before .before .before .before .before .before .before .before .pre in
+    let o = c .before .before .before .before .before .before .before .before .before .before .before .before .before .before .before .before .before .before .next-open in
+    let i2 = c .before .before .before .before .before .before .before .before .before .before .before .before .before .before .before .before .before .if2 in
+    let a = c .before .before .before .before .narrow in
+    let x = c .before .before .before .before .before .before .before .before .before .before .before .before .before .before .before .before .before .before .before .before .before .before .before .before .before .before .before .before .args in
+    let sa = c .before .before .before .before .before .before .before .before .before .before .before .before .before .before .before .before .before .before .before .before .before .next-open-arg3 in
+    let m = c .before .before .before .before .before .before .before .before .before .before .before .loop in
     let v = v0 .result in (
       omega (arith, p .0, o .ensures .least, i2 .left),
       (
@@ -227,16 +227,16 @@ explore-loop-less t c = search needs
 
 explore-loop-again : (t : ℕ) → explore-lts.Need-loop-again (claims t) (explore-at t) explore.Post explore-Inv-loop explore-μ-loop
 explore-loop-again t c =
-    let v0 = c .before .before .before .before .before .before .before .before .before .value-beside in
-    let m = c .before .before .before .before .before .before .before .before .before .before .before .before .before .loop in
-    let x = c .before .before .before .before .before .before .before .before .before .before .before .before .before .before .before .before .before .before .before .before .before .before .before .before .before .before .before .before .before .before .before .args in
-    let o = c .before .before .before .before .before .before .before .before .before .before .before .before .before .before .before .before .before .before .before .before .before .next-open in
-    let w = c .before .before .before .before .before .before .before .before .before .before .before .before .loop-test in
+    let v0 = c .before .before .before .before .before .before .before .before .value-beside in
+    let m = c .before .before .before .before .before .before .before .before .before .before .before .before .loop in
+    let x = c .before .before .before .before .before .before .before .before .before .before .before .before .before .before .before .before .before .before .before .before .before .before .before .before .before .before .before .before .before .args in
+    let o = c .before .before .before .before .before .before .before .before .before .before .before .before .before .before .before .before .before .before .before .next-open in
+    let w = c .before .before .before .before .before .before .before .before .before .before .before .loop-test in
     let e = c .explore in
-    let sa = c .before .before .before .before .before .before .before .before .before .before .before .before .before .before .before .before .before .before .before .before .before .before .before .before .next-open-arg3 in
-    let p = c .before .before .before .before .before .before .before .before .before .before .before .before .before .before .before .before .before .before .before .before .before .before .before .before .before .before .before .before .before .before .before .pre in
-    let i2 = c .before .before .before .before .before .before .before .before .before .before .before .before .before .before .before .before .before .before .before .if2 in
-    let a = c .before .before .before .before .before .before .narrow in
+    let sa = c .before .before .before .before .before .before .before .before .before .before .before .before .before .before .before .before .before .before .before .before .before .before .next-open-arg3 in
+    let p = c .before .before .before .before .before .before .before .before .before .before .before .before .before .before .before .before .before .before .before .before .before .before .before .before .before .before .before .before .before .pre in
+    let i2 = c .before .before .before .before .before .before .before .before .before .before .before .before .before .before .before .before .before .before .if2 in
+    let a = c .before .before .before .before .before .narrow in
     let v = v0 .result in
     let h : m .j < length (values (listsOf (x .sets .now)) (o .result .at)) = omega (arith, m .inv .0, w .taken) in (
       m .inv .0,
@@ -248,10 +248,10 @@ explore-loop-again t c =
 
 explore-narrow-requires-2 : (t : ℕ) → explore-lts.Need-narrow-requires-2 (claims t) (explore-at t) explore.Post explore-Inv-loop explore-μ-loop
 explore-narrow-requires-2 t c κs =
-    let x = c .before .before .before .before .before .before .before .before .before .before .before .before .before .before .before .before .before .before .before .before .before .args in
-    let o = c .before .before .before .before .before .before .before .before .before .before .before .next-open in
-    let sa = c .before .before .before .before .before .before .before .before .before .before .before .before .before .before .next-open-arg3 in
-    let p = c .before .before .before .before .before .before .before .before .before .before .before .before .before .before .before .before .before .before .before .before .before .pre in
+    let x = c .before .before .before .before .before .before .before .before .before .before .before .before .before .before .before .before .before .before .before .before .args in
+    let o = c .before .before .before .before .before .before .before .before .before .before .next-open in
+    let sa = c .before .before .before .before .before .before .before .before .before .before .before .before .before .next-open-arg3 in
+    let p = c .before .before .before .before .before .before .before .before .before .before .before .before .before .before .before .before .before .before .before .before .pre in
     let i2 = c .before .before .before .before .before .before .before .before .before .if2 in
     let m = c .before .before .before .loop in
     (same-size (lineBy (x .line .now)) (x .counter) (x .sets .now) (x .state .now) (x .level) (o .result .level) (o .result .at) (gathered (listed (x .found .now)) (x .leak) (x .row .now)) (sa .given .0) (p .1 .1) (o .ensures) (i2 .left) (m .sets) (m .state) (gathered (listed (m .found)) (m .seen) (m .row)) (m .j) (m .inv .3), same-state-size (lineBy (x .line .now)) (x .counter) (x .sets .now) (x .state .now) (x .level) (o .result .level) (o .result .at) (gathered (listed (x .found .now)) (x .leak) (x .row .now)) (sa .given .0) (p .1 .1) (o .ensures) (i2 .left) (m .sets) (m .state) (gathered (listed (m .found)) (m .seen) (m .row)) (m .j) (m .inv .3), within (lineBy (x .line .now)) (x .counter) (x .sets .now) (x .state .now) (x .level) (o .result .level) (o .result .at) (gathered (listed (x .found .now)) (x .leak) (x .row .now)) (sa .given .0) (p .1 .1) (o .ensures) (i2 .left))
@@ -259,10 +259,10 @@ explore-narrow-requires-2 t c κs =
 explore-returns-3 : (t : ℕ) → explore-lts.Need-returns-3 (claims t) (explore-at t) explore.Post explore-Inv-loop explore-μ-loop
 explore-returns-3 t c =
     let m = c .before .before .before .before .loop in
-    let x = c .before .before .before .before .before .before .before .before .before .before .before .before .before .before .before .before .before .before .before .before .before .before .args in
-    let o = c .before .before .before .before .before .before .before .before .before .before .before .before .next-open in
-    let sa = c .before .before .before .before .before .before .before .before .before .before .before .before .before .before .before .next-open-arg3 in
-    let p = c .before .before .before .before .before .before .before .before .before .before .before .before .before .before .before .before .before .before .before .before .before .before .pre in
+    let x = c .before .before .before .before .before .before .before .before .before .before .before .before .before .before .before .before .before .before .before .before .before .args in
+    let o = c .before .before .before .before .before .before .before .before .before .before .before .next-open in
+    let sa = c .before .before .before .before .before .before .before .before .before .before .before .before .before .before .next-open-arg3 in
+    let p = c .before .before .before .before .before .before .before .before .before .before .before .before .before .before .before .before .before .before .before .before .before .pre in
     let i2 = c .before .before .before .before .before .before .before .before .before .before .if2 in
     let w = c .before .before .before .loop-test in
     let a = c .narrow2 in
