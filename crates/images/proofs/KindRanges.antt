@@ -12,9 +12,9 @@ use Rattle.model.specs.declared.Kind.the-variants.{Neither, Public, Sensitive}
 use Rattle.model.specs.Limits.{stateSize}
 use Rattle.model.specs.Places.{State, kind}
 use Rattle.model.specs.Code.{code}
-use Rattle.model.specs.Images.{fixed, imageAt, image, backAt, back, bitRight, fixedRight, imageRight, every}
+use Rattle.model.specs.Images.{mapAt, backAt, back, bitRight, fixedRight, imageRight, every}
 use Rattle.images.specs.Pages.{pageBytes}
-use Rattle.images.specs.Ranges.{between, either, onPage, filled, shifted, chosen}
+use Rattle.images.specs.Ranges.{between, either, onPage, filled, shifted, chosen, placed}
 use Rattle.images.proofs.Tables.{page-fixed, high-fixed}
 use Rattle.images.proofs.Ranges.{tested, skipped, none-left, none-done, range-done, all-done}
 
@@ -149,29 +149,43 @@ module _ (L : Layout) where
       (joined (between (either 0 0) 0 1 s) (between coded 16 16 s) (between coded 160 128 s) pages
       (every f 1 (drop 1 s)) (every f 32 (drop 32 s)) (every f 288 (drop 288 s)) t1 (t2 ∙ t3 ∙ t4) (t5 ∙ t6) (t7 ∙ last f s h pages))
 
-  -- ---- images
+-- ---- what is written, from store to store
 
+module _ (page : List ℕ) (key x y : ℕ) where
+  module _ (j b : ℕ) where
+    placed-scratch : j < 4 → placed page key x y j b ≡ 0
+    unfolding placed
+    placed-scratch h = rw (scratch j h, lt-ltb j 4 h)
+
+    placed-copied : kind j ≡ Public → placed page key x y j b ≡ b
+    unfolding placed
+    placed-copied e = rw e
+
+    placed-chosen : kind j ≡ Sensitive → placed page key x y j b ≡ cond (eqb b key) x y
+    unfolding placed
+    placed-chosen e = rw e
+
+    placed-page : 288 ≤ j → placed page key x y j b ≡ getD page (j - 288) 0
+    unfolding placed
+    placed-page g = rw (page-cell j g, le-ltb j 4 (omega arith))
+
+  pub placed-by-range : (s d one two three four five six : State) → length s ≡ stateSize → length d ≡ stateSize
+      → one ≡ filled (chosen s 0 0 0) 0 4 d → two ≡ filled (shifted s 0) 4 12 one → three ≡ filled (chosen s key x y) 16 16 two
+      → four ≡ filled (shifted s 0) 32 128 three → five ≡ filled (chosen s key x y) 160 128 four → six ≡ filled (shifted page 288) 288 256 five
+      → six ≡ mapAt (placed page key x y) 0 s
+  placed-by-range s d one two three four five six h g e1 e2 e3 e4 e5 e6 =
+      let f = placed page key x y in
+      let q : length s ≡ length d = omega arith in
+      let w1 = range-done f s d q (chosen s 0 0 0) d 0 4 (omega arith) (λ j a b. placed-scratch j (getD s j 0) (omega arith) ∙ sym (none (eqb (getD s j 0) 0))) (none-done f s d q) in
+      let w2 = range-done f s d q (shifted s 0) one 4 12 (omega arith) (λ j a b. placed-copied j (getD s j 0) (public-register j a (omega arith)) ∙ unshifted s j) (e1 ∙ w1) in
+      let w3 = range-done f s d q (chosen s key x y) two 16 16 (omega arith) (λ j a b. placed-chosen j (getD s j 0) (sensitive-register j a (omega arith))) (e2 ∙ w2) in
+      let w4 = range-done f s d q (shifted s 0) three 32 128 (omega arith) (λ j a b. placed-copied j (getD s j 0) (public-cell j a (omega arith)) ∙ unshifted s j) (e3 ∙ w3) in
+      let w5 = range-done f s d q (chosen s key x y) four 160 128 (omega arith) (λ j a b. placed-chosen j (getD s j 0) (sensitive-cell j a (omega arith))) (e4 ∙ w4) in
+      let w6 = range-done f s d q (shifted page 288) five 288 256 (omega arith) (λ j a b. placed-page j (getD s j 0) a) (e5 ∙ w5) in
+      all-done f s d q six 544 (omega arith) (e6 ∙ w6)
+
+module _ (L : Layout) where
   module _ (j x : ℕ) where
-    image-scratch : j < 4 → imageAt L j x ≡ 0
-    unfolding imageAt fixed
-    image-scratch h = rw (scratch j h, lt-ltb j 4 h)
-
-    image-copied : kind j ≡ Public → imageAt L j x ≡ x
-    unfolding imageAt
-    image-copied e = rw e
-
-    image-coded : kind j ≡ Sensitive → imageAt L j x ≡ cond (eqb x 0) (L .zero) (L .one)
-    unfolding imageAt code
-    image-coded e = rw e (by x)
-      where
-        by : (x : ℕ) → code L x ≡ cond (eqb x 0) (L .zero) (L .one)
-        by zero = refl
-        by (suc x) = rw (ne-eqb (suc x) 0 (λ q. omega arith))
-
-    image-fixed : (page : List ℕ) → page ≡ pageBytes L → 288 ≤ j → j < stateSize → imageAt L j x ≡ getD page (j - 288) 0
-    unfolding imageAt
-    image-fixed page e g h = rw (page-cell j g) (sym (page-fixed L page j e g h))
-
     back-neither : kind j ≡ Neither → backAt L j x ≡ 0
     unfolding backAt
     back-neither e = rw e
@@ -184,23 +198,7 @@ module _ (L : Layout) where
     unfolding backAt code
     back-decoded e = rw e
 
-  -- from store to store
   module _ (s d one two three four five six : State) (h : length s ≡ stateSize) (g : length d ≡ stateSize) where
-    pub image-by-range : (page : List ℕ) → page ≡ pageBytes L → one ≡ filled (chosen s 0 0 0) 0 4 d → two ≡ filled (shifted s 0) 4 12 one
-        → three ≡ filled (chosen s 0 (L .zero) (L .one)) 16 16 two → four ≡ filled (shifted s 0) 32 128 three
-        → five ≡ filled (chosen s 0 (L .zero) (L .one)) 160 128 four → six ≡ filled (shifted page 288) 288 256 five → six ≡ image L s
-    unfolding image
-    image-by-range page p e1 e2 e3 e4 e5 e6 =
-        let f = imageAt L in
-        let q : length s ≡ length d = omega arith in
-        let w1 = range-done f s d q (chosen s 0 0 0) d 0 4 (omega arith) (λ j a b. image-scratch j (getD s j 0) (omega arith) ∙ sym (none (eqb (getD s j 0) 0))) (none-done f s d q) in
-        let w2 = range-done f s d q (shifted s 0) one 4 12 (omega arith) (λ j a b. image-copied j (getD s j 0) (public-register j a (omega arith)) ∙ unshifted s j) (e1 ∙ w1) in
-        let w3 = range-done f s d q (chosen s 0 (L .zero) (L .one)) two 16 16 (omega arith) (λ j a b. image-coded j (getD s j 0) (sensitive-register j a (omega arith))) (e2 ∙ w2) in
-        let w4 = range-done f s d q (shifted s 0) three 32 128 (omega arith) (λ j a b. image-copied j (getD s j 0) (public-cell j a (omega arith)) ∙ unshifted s j) (e3 ∙ w3) in
-        let w5 = range-done f s d q (chosen s 0 (L .zero) (L .one)) four 160 128 (omega arith) (λ j a b. image-coded j (getD s j 0) (sensitive-cell j a (omega arith))) (e4 ∙ w4) in
-        let w6 = range-done f s d q (shifted page 288) five 288 256 (omega arith) (λ j a b. image-fixed j (getD s j 0) page p a (omega arith)) (e5 ∙ w5) in
-        all-done f s d q six 544 (omega arith) (e6 ∙ w6)
-
     pub back-by-range : one ≡ filled (chosen s 0 0 0) 0 4 d → two ≡ filled (shifted s 0) 4 12 one → three ≡ filled (chosen s (L .one) 1 0) 16 16 two
         → four ≡ filled (shifted s 0) 32 128 three → five ≡ filled (chosen s (L .one) 1 0) 160 128 four → six ≡ filled (chosen s 0 0 0) 288 256 five → six ≡ back L s
     unfolding back

@@ -2,3 +2,4 @@ pub mod Tables
 pub mod Ranges
 pub mod KindRanges
 pub mod Carrying
+pub mod Placed

@@ -118,12 +118,14 @@ pub bytes-length : (L : Layout) → length (pageBytes L) ≡ 256
 unfolding pageBytes
 bytes-length L = mapAt-length (λ i x. page L i) 0 (replicate 256 0)
 
+pub page-byte : (L : Layout) (l : List ℕ) (i : ℕ) → l ≡ pageBytes L → i < 256 → getD l i 0 ≡ page L i
+unfolding pageBytes
+page-byte L l i e h = ap (λ (l : List ℕ). getD l i 0) e ∙ mapAt-getD (λ i x. page L i) 0 (replicate 256 0) i h ∙ ap (page L) (zero-add i)
+
 -- in the table page what is fixed is the page
 pub page-fixed : (L : Layout) (l : List ℕ) (i : ℕ) → l ≡ pageBytes L → 288 ≤ i → i < stateSize → getD l (i - 288) 0 ≡ fixed L i
-unfolding fixed pageBytes
-page-fixed L l i e h g =
-    ap (λ (l : List ℕ). getD l (i - 288) 0) e ∙ mapAt-getD (λ i x. page L i) 0 (replicate 256 0) (i - 288) (omega arith)
-    ∙ ap (page L) (zero-add (i - 288)) ∙ sym (rw (le-ltb i 4 (omega arith)))
+unfolding fixed
+page-fixed L l i e h g = page-byte L l (i - 288) e (omega arith) ∙ sym (rw (le-ltb i 4 (omega arith)))
 
 other : (t u v : Bool) → t ≡ false → v ≡ cond t u v
 other t u v e = rw e

@@ -1,10 +1,12 @@
--- The places of a state from one on, so many of them: a test of each, and a byte written to each.
+-- The places of a state from one on, so many of them: a test of each, and a byte written to each; and what is written to a whole state.
 -- Assumes nothing.
 use mathlib.Core.Bool.{Bool, true, cond, _&&_, _||_}
 use mathlib.Core.List.{List}
 use Prim.Native.Nat.{ℕ, zero, suc, _+_, _-_}
-use lib.Dec.{eqb}
+use lib.Dec.{eqb, ltb}
 use lib.ListN.{getD, set}
+use Rattle.model.specs.Places.{kind}
+use Rattle.model.specs.Images.{byKind}
 
 -- a test of the places from i on, n of them
 unfoldable pub between : (ℕ → ℕ → Bool) → ℕ → ℕ → List ℕ → Bool
@@ -31,3 +33,9 @@ shifted from shift i = getD from (i - shift) 0
 -- one of two bytes, by whether another list has the key there
 abbrev pub chosen : List ℕ → ℕ → ℕ → ℕ → ℕ → ℕ
 chosen from key x y i = cond (eqb (getD from i 0) key) x y
+
+-- what stands at place i where another state has b: 0 in r0 to r3, then the page; b in public places; one of two bytes in sensitive ones, by
+-- whether b is the key
+unfoldable pub placed : List ℕ → ℕ → ℕ → ℕ → ℕ → ℕ → ℕ
+unfolding kind
+placed page key x y i b = byKind (kind i) (cond (ltb i 4) 0 (getD page (i - 288) 0)) b (cond (eqb b key) x y)

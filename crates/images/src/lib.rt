@@ -1,7 +1,7 @@
 // 'Code, tables, macros' of document 01, the tables and the images of bit states, and the way back: conditions 23, 18 and 19, then a store of
 // 544 bytes, by ranges of places of one kind.
 ghost use mathlib.Core.Path.{_≡_};
-ghost use mathlib.Core.Bool.{cond};
+ghost use mathlib.Core.Bool.{cond, _&&_};
 ghost use mathlib.Core.List.{[], _∷_};
 ghost use Prim.Native.Nat.{_+_, _-_, _*_, _≤_, _<_};
 ghost use lib.Dec.{eqb};
@@ -10,10 +10,10 @@ ghost use Rattle.model.specs.declared.Opcode.{Opcode};
 ghost use Rattle.model.specs.Limits.{stateSize};
 ghost use Rattle.model.specs.Answers.{report, outcome};
 ghost use Rattle.model.specs.Layouts.{Known};
-ghost use Rattle.model.specs.Images.{image as imageOf, back as backOf};
+ghost use Rattle.model.specs.Images.{mapAt, back as backOf};
 ghost use Rattle.model.specs.Images.{bitRight, imageRight, every, imageIn, bitsIn, toImageOutcome, fromImageOutcome};
 ghost use Rattle.images.specs.Pages.{entries, Small, copied, pageBytes};
-ghost use Rattle.images.specs.Ranges.{either, onPage, between, shifted, chosen, filled};
+ghost use Rattle.images.specs.Ranges.{either, onPage, between, shifted, chosen, filled, placed};
 use model::Answer;
 use model::Layout;
 use model::STATE_SIZE;
@@ -194,25 +194,17 @@ fn places_right(layout: Layout, page: &[u8; PAGE], image: &[u8]) -> bool
     zero & registers & cells & same
 }
 
-// Public places as they are, the code of each sensitive bit, the table page; r0 to r3 are 0.
-fn put_image(layout: Layout, page: &[u8; PAGE], bits: &[u8], image: &mut [u8])
-    requires { ⌜ (now page ≡ pageBytes layout) × (length (now bits) ≡ stateSize) × (length (now image) ≡ stateSize) ⌝ }
-    ensures { λ r. ⌜ now (image .exit) ≡ imageOf layout (now (bits .entry)) ⌝ }
+// Public places as they are, x or y in each sensitive place by whether the key stands there, the table page; r0 to r3 are 0.
+fn put_places(page: &[u8; PAGE], from: &[u8], into: &mut [u8], key: u8, x: u8, y: u8)
+    requires { ⌜ (length (now page) ≡ 256) × (length (now from) ≡ stateSize) × (length (now into) ≡ stateSize) ⌝ }
+    ensures { λ r. ⌜ now (into .exit) ≡ mapAt (placed (now (page .entry)) key x y) 0 (now (from .entry)) ⌝ }
 {
-    choose_between(bits, image, 0, R4, 0, 0, 0);
-    copy_between(bits, 0, image, R4, R16);
-    choose_between(bits, image, R16, CELLS, 0, layout.zero, layout.one);
-    copy_between(bits, 0, image, CELLS, CELL_128);
-    choose_between(
-        bits,
-        image,
-        CELL_128,
-        PAGE_START,
-        0,
-        layout.zero,
-        layout.one,
-    );
-    copy_between(page, PAGE_START, image, PAGE_START, STATE_SIZE);
+    choose_between(from, into, 0, R4, 0, 0, 0);
+    copy_between(from, 0, into, R4, R16);
+    choose_between(from, into, R16, CELLS, key, x, y);
+    copy_between(from, 0, into, CELLS, CELL_128);
+    choose_between(from, into, CELL_128, PAGE_START, key, x, y);
+    copy_between(page, PAGE_START, into, PAGE_START, STATE_SIZE);
 }
 
 // Public places as they are, the bit of each code; r0 to r3 and the table page are 0.
@@ -228,18 +220,19 @@ fn put_back(layout: Layout, image: &[u8], bits: &mut [u8])
     choose_between(image, bits, PAGE_START, STATE_SIZE, 0, 0, 0);
 }
 
+// Whether both lent states have the size of a state.
+fn are_states(one: &[u8], other: &[u8]) -> bool
+    ensures { λ r. ⌜ r ≡ (eqb (length (now (one .entry))) stateSize && eqb (length (now (other .entry))) stateSize) ⌝ }
+{
+    (one.len() == STATE_SIZE) & (other.len() == STATE_SIZE)
+}
+
 // The bodies of `to_image` and `from_image`: 18 for either length, then 19, else the store filled.
 fn make_image(layout: Layout, bits: &[u8], image: &mut [u8]) -> Answer
     requires { ⌜ Known layout ⌝ }
     ensures { λ r. ⌜ outcome (report r) (now (image .exit) ∷ []) ≡ imageIn layout (now (bits .entry)) (now (image .entry)) ⌝ }
 {
-    if bits.len() != STATE_SIZE {
-        return Answer::Refused {
-            number: 18,
-            line: 0,
-        };
-    }
-    if image.len() != STATE_SIZE {
+    if !are_states(bits, image) {
         return Answer::Refused {
             number: 18,
             line: 0,
@@ -247,7 +240,7 @@ fn make_image(layout: Layout, bits: &[u8], image: &mut [u8]) -> Answer
     }
     if bits_right(bits) {
         let page = page_of(layout);
-        put_image(layout, &page, bits, image);
+        put_places(&page, bits, image, 0, layout.zero, layout.one);
         return Answer::Count(STATE_SIZE as u32);
     }
     Answer::Refused {
@@ -260,13 +253,7 @@ fn make_bits(layout: Layout, image: &[u8], bits: &mut [u8]) -> Answer
     requires { ⌜ Known layout ⌝ }
     ensures { λ r. ⌜ outcome (report r) (now (bits .exit) ∷ []) ≡ bitsIn layout (now (image .entry)) (now (bits .entry)) ⌝ }
 {
-    if image.len() != STATE_SIZE {
-        return Answer::Refused {
-            number: 18,
-            line: 0,
-        };
-    }
-    if bits.len() != STATE_SIZE {
+    if !are_states(image, bits) {
         return Answer::Refused {
             number: 18,
             line: 0,

@@ -1,56 +1,70 @@
 -- `images::make_image` meets its contract. A return for each case of `carried`. Assumes nothing.
+use mathlib.Core.Path.{ap, _∙_}
+use lib.ListN.{length}
 use Rattle.model.specs.Images.{image, bitRight}
-use Rattle.images.proofs.Carrying.{first-long, second-long, turned-down, goes-over}
+use Rattle.images.proofs.Tables.{bytes-length}
+use Rattle.images.proofs.Placed.{image-placed}
+use Rattle.images.proofs.Carrying.{both-long, other-size, turned-down, goes-over}
 use borrow.Author.Needs.{needs}
 use Rattle.images.proofs.make_image.Statement.{statement}
 use Rattle.images.proofs.make_image.Tie as tie
 
-returns : tie.Need-returns
-returns c =
-    let s = c .before .before .before in
-    first-long bitRight (image (s .args .layout)) (s .args .bits .now) (s .args .image .now) (c .if1 .taken)
-
-returns-2 : tie.Need-returns-2
-returns-2 c =
-    let s = c .before .before .before .before in
-    second-long bitRight (image (s .args .layout)) (s .args .bits .now) (s .args .image .now) (c .before .if1 .left) (c .if2 .taken)
-
-bits-right-requires : tie.Need-bits-right-requires
-bits-right-requires c κs = search needs
-
-page-of-requires : tie.Need-page-of-requires
-page-of-requires c κs = search needs
-
-put-image-requires : tie.Need-put-image-requires
-put-image-requires c κs = search needs
-
-cast-t13 : tie.Need-cast-t13
-cast-t13 c = search needs
+are-states-requires : tie.Need-are-states-requires
+are-states-requires c κs = search needs
 
 same-length : tie.Need-same-length
 same-length c = search needs
 
+returns : tie.Need-returns
+returns c = let a = c .before .before .before .before .before .args in other-size (a .bits .now) (a .image .now) _ (c .before .are-states .ensures) bitRight (image (a .layout)) (c .if1 .taken)
+
+bits-right-requires : tie.Need-bits-right-requires
+bits-right-requires c κs = let a = c .before .before .before .before .before .args in both-long (a .bits .now) (a .image .now) _ (c .before .are-states .ensures) (c .if1 .left) .0
+
+page-of-requires : tie.Need-page-of-requires
+page-of-requires c κs = search needs
+
+put-places-requires : tie.Need-put-places-requires
+put-places-requires c κs =
+    let a = c .before .before .before .before .before .before .before .before .before .before .args in
+    let l = both-long (a .bits .now) (a .image .now) _ (c .before .before .before .before .before .before .are-states .ensures) (c .before .before .before .before .before .if1 .left) in
+    (ap length (c .before .before .page-of .ensures) ∙ bytes-length (a .layout), l .0, l .1)
+
+cast-t15 : tie.Need-cast-t15
+cast-t15 c = search needs
+
+same-length-2 : tie.Need-same-length-2
+same-length-2 c = search needs
+
+returns-2 : tie.Need-returns-2
+returns-2 c =
+    let a = c .before .before .before .before .before .before .before .before .before .before .before .before .before .args in
+    let w = c .before .before .before .before .before .before .before .before .before .are-states .ensures in
+    let h = c .before .before .before .before .before .before .before .before .if1 .left in
+    let l = both-long (a .bits .now) (a .image .now) _ w h in
+    goes-over (a .bits .now) (a .image .now) _ w bitRight (image (a .layout)) h _ (c .before .before .before .before .before .before .before .bits-right .ensures) _ (c .before .before .before .before .before .before .if2 .taken)
+    (c .before .before .put-places .ensures ∙ image-placed (a .layout) _ (c .before .before .before .before .before .page-of .ensures) (a .bits .now) (l .0))
+
+same-length-3 : tie.Need-same-length-3
+same-length-3 c = search needs
+
 returns-3 : tie.Need-returns-3
 returns-3 c =
-    let d = c .before .before .before .before .before .before in
-    let s = d .before .before .before .before .before .before in
-    goes-over bitRight (image (s .args .layout)) (s .args .bits .now) (s .args .image .now) _ _ (d .before .before .before .if1 .left) (d .before .before .if2 .left) (d .before .bits-right .ensures) (d .if3 .taken) (c .before .before .put-image .ensures)
-
-returns-4 : tie.Need-returns-4
-returns-4 c =
-    let s = c .before .before .before .before .before .before in
-    turned-down bitRight (image (s .args .layout)) (s .args .bits .now) (s .args .image .now) _ (c .before .before .before .if1 .left) (c .before .before .if2 .left) (c .before .bits-right .ensures) (c .if3 .left)
+    let a = c .before .before .before .before .before .before .before .args in
+    turned-down (a .bits .now) (a .image .now) _ (c .before .before .before .are-states .ensures) bitRight (image (a .layout)) (c .before .before .if1 .left) _ (c .before .bits-right .ensures) (c .if2 .left)
 
 pub make-image-spec : {M : Type 1} → statement M
 make-image-spec =
     tie.close
     (tie.spec
+    are-states-requires
+    same-length
     returns
-    returns-2
     bits-right-requires
     page-of-requires
-    put-image-requires
-    cast-t13
-    same-length
-    returns-3
-    returns-4)
+    put-places-requires
+    cast-t15
+    same-length-2
+    returns-2
+    same-length-3
+    returns-3)
