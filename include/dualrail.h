@@ -48,6 +48,11 @@ uint64_t dualrail_to_image(uint8_t position, uint8_t spacing, const uint8_t *bit
 uint64_t dualrail_from_image(uint8_t position, uint8_t spacing, const uint8_t *image, size_t image_length, uint8_t *bits,
                              size_t bits_length);
 
+/* Moves an image from its old layout to a new one, its own too, at a point between two source lines: public places stay, sensitive codes
+ * and tables become the new layout's, r1 to r3 become 0; counts 544 bytes. Refusals 23 (of either layout), 18, 19 (by the old one). */
+uint64_t dualrail_move_image(uint8_t old_position, uint8_t old_spacing, uint8_t new_position, uint8_t new_spacing,
+                             const uint8_t *from, size_t from_length, uint8_t *into, size_t into_length);
+
 /* Runs a stored program from a start counter with a budget of steps, changes the state and writes a row of six numbers for each step.
  * Refusals 7, 3 to 6, 18, 20. */
 uint64_t dualrail_run(const uint16_t *program, size_t program_length, uint16_t start, uint16_t budget, uint8_t *state,

@@ -99,7 +99,7 @@ impl Layout {
     }
 }
 
-/// The eight entry points.
+/// The nine entry points.
 pub trait Dualrail {
     /// Reads a text into stored lines.
     fn read(&self, text: &[u8], store: &mut [u16]) -> Answer;
@@ -113,6 +113,8 @@ pub trait Dualrail {
     fn to_image(&self, layout: Layout, bits: &[u8], image: &mut [u8]) -> Answer;
     /// Makes the bit state of an image in the layout.
     fn from_image(&self, layout: Layout, image: &[u8], bits: &mut [u8]) -> Answer;
+    /// Moves an image from its old layout to a new one.
+    fn move_image(&self, old: Layout, new: Layout, from: &[u8], into: &mut [u8]) -> Answer;
     /// Runs a stored program, a trace row for each step.
     fn run(&self, program: &[u16], start: u16, budget: u16, state: &mut [u8], trace: &mut [u16]) -> Answer;
     /// Judges a stored program, with 17 bytes for each place: how many values it may have, and these.

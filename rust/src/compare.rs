@@ -12,7 +12,9 @@ use std::collections::BTreeSet;
 use std::panic::{catch_unwind, AssertUnwindSafe};
 
 pub mod jumps;
+pub mod moves;
 use jumps::Jumps;
+use moves::Moves;
 
 #[derive(Clone, Copy, Debug, PartialEq)]
 pub enum Entry {
@@ -22,22 +24,25 @@ pub enum Entry {
     Expand,
     ToImage,
     FromImage,
+    MoveImage,
     Run,
     Judge,
 }
 
-/// The entry points that take a layout.
+/// The entry points that take one layout.
 pub const WITH_LAYOUT: [Entry; 3] = [Entry::Expand, Entry::ToImage, Entry::FromImage];
 
 /// What is handed over besides memory; what an entry point does not have is 0.
 #[derive(Clone, Copy, Debug, PartialEq)]
 struct Small {
     layout: Layout,
+    /// The layout that an image moves to; the other one is its old.
+    new: Layout,
     start: u16,
     budget: u16,
 }
 
-const NONE: Small = Small { layout: Layout::LOWEST, start: 0, budget: 0 };
+const NONE: Small = Small { layout: Layout::LOWEST, new: Layout::LOWEST, start: 0, budget: 0 };
 
 /// One call with all its memory; parts that an entry point does not have are empty.
 #[derive(Clone, PartialEq)]
@@ -52,7 +57,7 @@ struct Call {
 
 impl Call {
     fn make(&mut self, on: &dyn Dualrail) -> Answer {
-        let Small { layout, start, budget } = self.small;
+        let Small { layout, new, start, budget } = self.small;
         let (bytes, numbers) = (self.bytes.part(), self.numbers.part());
         let (lent_bytes, lent_numbers) = (self.lent_bytes.part_mut(), self.lent_numbers.part_mut());
         match self.entry {
@@ -62,6 +67,7 @@ impl Call {
             Entry::Expand => on.expand(layout, numbers, lent_numbers),
             Entry::ToImage => on.to_image(layout, bytes, lent_bytes),
             Entry::FromImage => on.from_image(layout, bytes, lent_bytes),
+            Entry::MoveImage => on.move_image(layout, new, bytes, lent_bytes),
             Entry::Run => on.run(numbers, start, budget, lent_bytes, lent_numbers),
             Entry::Judge => on.judge(numbers, bytes, budget),
         }
@@ -77,7 +83,7 @@ impl Call {
         let mut shown = format!("{:?}, {:?}\n", self.entry, self.small);
         match self.entry {
             Entry::Read => shown += &(format!("text as string: {text:.20000?}\n") + &self.bytes.show("text")),
-            Entry::ToImage | Entry::FromImage => shown += &self.bytes.show("state"),
+            Entry::ToImage | Entry::FromImage | Entry::MoveImage => shown += &self.bytes.show("state"),
             _ => shown += &(self.numbers.show("program") + &show_lines(self.numbers.part())),
         }
         match self.entry {
@@ -110,7 +116,7 @@ fn show_sets(bytes: &[u8]) -> String {
 #[derive(Clone, Default)]
 pub struct Counts {
     pub calls: u64,
-    pub entries: [u64; 8],
+    pub entries: [u64; 9],
     pub refusals: [u64; 24],
     pub halted: u64,
     pub spent: u64,
@@ -127,7 +133,7 @@ pub struct Counts {
     pub leaks_shown: u64,
     /// Verdicts on one step compared with all states: without leak, with one.
     pub exact: [u64; 2],
-    /// Of each entry point with a layout: its successes in each of the six.
+    /// Of each entry point with one layout: its successes in each of the six.
     pub in_layout: [[u64; 6]; 3],
     /// Its refusals 23: of a position outside, a spacing outside, both.
     pub outside: [[u64; 3]; 3],
@@ -143,8 +149,9 @@ pub struct Counts {
     pub public_bits: u64,
     /// Walks of their expansions on the images of each layout: balanced, spent.
     pub image_walks: [[u64; 2]; 6],
-    /// Of programs full of jumps.
+    /// Of programs full of jumps, and of moves.
     pub jumps: Jumps,
+    pub moves: Moves,
 }
 
 /// Which of the six a layout is.
@@ -177,7 +184,7 @@ impl Counts {
         }
     }
 
-    /// Counts a call of one of the entry points with a layout.
+    /// Counts a call of one of the entry points with one layout.
     fn add_layout(&mut self, entry: usize, call: &Call, answer: Answer) {
         let Layout { position, spacing } = call.small.layout;
         match answer {
@@ -207,6 +214,7 @@ impl Counts {
             Entry::Expand,
             Entry::ToImage,
             Entry::FromImage,
+            Entry::MoveImage,
             Entry::Run,
             Entry::Judge,
         ];
@@ -239,7 +247,7 @@ impl Counts {
             );
         }
         shown += &format!("\nimages refused that another layout takes: {}", self.other_images);
-        shown + &self.jumps.show()
+        shown + &self.jumps.show() + &self.moves.show()
     }
 }
 
@@ -365,8 +373,18 @@ impl Comparison<'_> {
         state: &[u8],
         size: usize,
     ) -> Result<(Answer, Vec<u8>), String> {
+        self.state_to_state(entry, Small { layout, ..NONE }, state, size)
+    }
+
+    /// A call that makes a state out of another one, in a store of this size.
+    fn state_to_state(
+        &mut self,
+        entry: Entry,
+        small: Small,
+        state: &[u8],
+        size: usize,
+    ) -> Result<(Answer, Vec<u8>), String> {
         let lent = self.some_bytes(size);
-        let small = Small { layout, ..NONE };
         let (answer, call) = self.call(entry, small, (state, &[]), (&lent, &[]))?;
         Ok((answer, call.lent_bytes.part().to_vec()))
     }
@@ -395,7 +413,7 @@ impl Comparison<'_> {
         if case % 25 == 0 {
             return self.long(case / 25);
         }
-        match self.rng.below(15) {
+        match self.rng.below(17) {
             0..=3 => {
                 let lines = make::accepted_program(&mut self.rng);
                 self.whole_way(&lines)
@@ -405,6 +423,7 @@ impl Comparison<'_> {
             9..=10 => self.stored_programs(),
             11 => self.first_step(),
             12 => self.jumps(),
+            13..=14 => self.moves(),
             _ => self.walks(),
         }
     }
@@ -705,14 +724,12 @@ impl Comparison<'_> {
     /// An accepted program the whole way in one of the layouts: text, lines, expansion, images, runs.
     fn whole_way(&mut self, lines: &[Line]) -> Result<(), String> {
         let layout = make::layout(&mut self.rng);
-        let starts = paper::starts(layout, lines);
-        let mut way = Way { layout, lines, starts, program: vec![], expansion: vec![] };
+        let mut way = Way::new(layout, lines);
         way.program = self.there_and_back(&way)?;
         way.expansion = self.expanded(&way)?;
-        let line = self.start(lines.len());
-        let (bits, image) = self.equal_traces(&way, line)?;
-        self.all_images(&way, &image)?;
-        self.follows(&way, line, &bits, &image)?;
+        let begin = self.equal_traces(&way)?;
+        self.all_images(&way, &begin.image)?;
+        self.follows(&way, &begin)?;
         self.counts.whole_runs[which(layout)] += 1;
         Ok(())
     }
@@ -750,28 +767,34 @@ impl Comparison<'_> {
     }
 
     /// Equal traces from the images of two bit states alike in public places, from one source line with
-    /// one budget. Gives the first of the bit states and its image.
-    fn equal_traces(&mut self, way: &Way, line: usize) -> Result<(Vec<u8>, Vec<u8>), String> {
+    /// one budget. Gives the line with the first of the bit states and its image.
+    fn equal_traces(&mut self, way: &Way) -> Result<Stand, String> {
+        let line = self.start(way.lines.len());
         let one = make::bit_state(&mut self.rng);
         let two = make::same_public(&mut self.rng, &one);
         let (_, image_one) = self.image(Entry::ToImage, way.layout, &one, STATE)?;
         let (_, image_two) = self.image(Entry::ToImage, way.layout, &two, STATE)?;
         let (_, back) = self.image(Entry::FromImage, way.layout, &image_one, STATE)?;
         way.must(back == one, "the bit state does not come back")?;
+        self.counts.equal_rows += self.alike(way, line, [&image_one, &image_two])?;
+        Ok(Stand { line, bits: one, image: image_one })
+    }
 
+    /// Runs from two images and one source line, with one budget, have equal traces and end alike. Gives
+    /// how many rows they have.
+    fn alike(&mut self, way: &Way, line: usize, [one, two]: [&[u8]; 2]) -> Result<u64, String> {
         let budget = match self.rng.below(50) {
             0 => 20_000,
             1..=4 => 0,
             _ => self.rng.below(600),
         };
         let begin = (way.start(line), budget);
-        let (answer_one, _, trace_one) = self.run(&way.expansion, begin, &image_one, ROW * budget)?;
-        let (answer_two, _, trace_two) = self.run(&way.expansion, begin, &image_two, ROW * budget)?;
+        let (answer_one, _, trace_one) = self.run(&way.expansion, begin, one, ROW * budget)?;
+        let (answer_two, _, trace_two) = self.run(&way.expansion, begin, two, ROW * budget)?;
         way.must(answer_one == answer_two, "the runs end differently")?;
         let steps = steps(answer_one);
         way.must(trace_one[..ROW * steps] == trace_two[..ROW * steps], "the traces differ")?;
-        self.counts.equal_rows += steps as u64;
-        Ok((one, image_one))
+        Ok(steps as u64)
     }
 
     /// The verdict on all images at once that have the public places of this one.
@@ -788,34 +811,57 @@ impl Comparison<'_> {
         Ok(())
     }
 
-    /// The expansion follows the source: as many steps as the parts of the lines done have.
-    fn follows(&mut self, way: &Way, line: usize, bits: &[u8], image: &[u8]) -> Result<(), String> {
-        let budget = self.rng.below(200);
-        let (answer, source, trace) = self.run(&way.program, (line, budget), bits, ROW * budget)?;
-        let done = steps(answer);
-        let rows = trace[..ROW * done].chunks_exact(ROW).map(|row| row[0] as usize);
-        let public_bits = rows.clone().filter(|&line| make::has_public_bit(&way.lines[line])).count();
-        let length: usize = rows.map(|line| way.start(line + 1) - way.start(line)).sum();
+    /// The source does this many steps, or those to its end, and the expansion as many as the parts of the
+    /// lines done have. Gives where both stand, and these lines.
+    fn both_go(&mut self, way: &Way, from: &Stand, budget: usize) -> Result<(Stand, Vec<usize>), String> {
+        let begin = (from.line, budget);
+        let (answer, bits, trace) = self.run(&way.program, begin, &from.bits, ROW * budget)?;
+        let (line, done) = (counter(answer), steps(answer));
+        let lines: Vec<usize> = trace.chunks_exact(ROW).take(done).map(|row| row[0] as usize).collect();
+        let length: usize = lines.iter().map(|&line| way.start(line + 1) - way.start(line)).sum();
         let right = done <= length && length <= LONGEST * done;
         way.must(right, "the expansion takes too few or too many steps")?;
 
-        let stands = way.start(counter(answer));
-        let begin = (way.start(line), length);
-        let (answer, mut state, _) = self.run(&way.expansion, begin, image, ROW * length)?;
-        let right = steps(answer) == length && counter(answer) == stands;
+        let begin = (way.start(from.line), length);
+        let (answer, image, _) = self.run(&way.expansion, begin, &from.image, ROW * length)?;
+        let right = steps(answer) == length && counter(answer) == way.start(line);
         way.must(right, "the expansion stands elsewhere")?;
-        let (_, decoded) = self.image(Entry::FromImage, way.layout, &state, STATE)?;
-        way.must(decoded == source, "the expansion's state does not decode to the source's")?;
-        let (_, wanted) = self.image(Entry::ToImage, way.layout, &source, STATE)?;
-        state[1..=3].fill(0);
-        way.must(state == wanted, "the expansion's state is not the image of the source's")?;
+        Ok((Stand { line, bits, image }, lines))
+    }
+
+    /// The expansion follows the source.
+    fn follows(&mut self, way: &Way, begin: &Stand) -> Result<(), String> {
+        let budget = self.rng.below(200);
+        let (stand, done) = self.both_go(way, begin, budget)?;
+        let source = &stand.bits;
+        let (_, decoded) = self.image(Entry::FromImage, way.layout, &stand.image, STATE)?;
+        way.must(decoded == *source, "the expansion's state does not decode to the source's")?;
+        let (_, wanted) = self.image(Entry::ToImage, way.layout, source, STATE)?;
+        let right = scratch_cleared(&stand.image) == wanted;
+        way.must(right, "the expansion's state is not the image of the source's")?;
 
         let mut sensitive = (0..STATE).filter(|&place| paper::kind_of_place(place) == Kind::Sensitive);
         way.must(sensitive.all(|place| source[place] <= 1), "the source's state is no bit state")?;
-        self.counts.followed_steps += done as u64;
+        let public_bits = done.iter().filter(|&&line| make::has_public_bit(&way.lines[line])).count();
+        self.counts.followed_steps += done.len() as u64;
         self.counts.public_bits += public_bits as u64;
         Ok(())
     }
+}
+
+/// Where source and expansion stand between two source lines: the line, the bit state, the image.
+#[derive(Clone)]
+struct Stand {
+    line: usize,
+    bits: Vec<u8>,
+    image: Vec<u8>,
+}
+
+/// An image with 0 in r1 to r3, where a run leaves anything.
+fn scratch_cleared(image: &[u8]) -> Vec<u8> {
+    let mut image = image.to_vec();
+    image[1..=3].fill(0);
+    image
 }
 
 /// An accepted program on its whole way.
@@ -829,6 +875,17 @@ struct Way<'a> {
 }
 
 impl Way<'_> {
+    /// The way of these lines, still without their expansion.
+    fn new(layout: Layout, lines: &[Line]) -> Way<'_> {
+        Way {
+            layout,
+            lines,
+            starts: paper::starts(layout, lines),
+            program: make::stored(lines),
+            expansion: vec![],
+        }
+    }
+
     /// Where the expansion starts for a source line, at its end for one past the line count.
     fn start(&self, line: usize) -> usize {
         self.starts[line.min(self.lines.len())]

@@ -30,6 +30,16 @@ extern "C" {
         bits: *mut u8,
         bits_length: usize,
     ) -> u64;
+    fn dualrail_move_image(
+        old_position: u8,
+        old_spacing: u8,
+        new_position: u8,
+        new_spacing: u8,
+        from: *const u8,
+        from_length: usize,
+        into: *mut u8,
+        into_length: usize,
+    ) -> u64;
     fn dualrail_run(
         program: *const u16,
         program_length: usize,
@@ -85,6 +95,21 @@ pub fn from_image(Layout { position, spacing }: Layout, image: &[u8], bits: &mut
     })
 }
 
+pub fn move_image(old: Layout, new: Layout, from: &[u8], into: &mut [u8]) -> Answer {
+    Answer::from_count(unsafe {
+        dualrail_move_image(
+            old.position,
+            old.spacing,
+            new.position,
+            new.spacing,
+            from.as_ptr(),
+            from.len(),
+            into.as_mut_ptr(),
+            into.len(),
+        )
+    })
+}
+
 pub fn run(program: &[u16], start: u16, budget: u16, state: &mut [u8], trace: &mut [u16]) -> Answer {
     Answer::from_run(unsafe {
         dualrail_run(
@@ -128,6 +153,9 @@ impl Dualrail for Library {
     fn from_image(&self, layout: Layout, image: &[u8], bits: &mut [u8]) -> Answer {
         from_image(layout, image, bits)
     }
+    fn move_image(&self, old: Layout, new: Layout, from: &[u8], into: &mut [u8]) -> Answer {
+        move_image(old, new, from, into)
+    }
     fn run(&self, program: &[u16], start: u16, budget: u16, state: &mut [u8], trace: &mut [u16]) -> Answer {
         run(program, start, budget, state, trace)
     }
@@ -159,6 +187,11 @@ mod tests {
             assert_eq!(dualrail_to_image(0, 2, null(), 0, null_mut(), 0), refused(23));
             assert_eq!(dualrail_from_image(1, 0, null(), 0, null_mut(), 0), refused(18));
             assert_eq!(dualrail_from_image(255, 255, null(), 0, null_mut(), 0), refused(23));
+            assert_eq!(dualrail_move_image(0, 0, 2, 1, null(), 0, null_mut(), 0), refused(18));
+            assert_eq!(dualrail_move_image(0, 0, 0, 0, null(), 0, image.as_mut_ptr(), 544), refused(18));
+            assert_eq!(dualrail_move_image(0, 0, 0, 0, image.as_ptr(), 544, null_mut(), 0), refused(18));
+            assert_eq!(dualrail_move_image(0, 0, 3, 0, null(), 0, null_mut(), 0), refused(23));
+            assert_eq!(dualrail_move_image(0, 2, 0, 0, odd.cast(), 0, odd.cast(), 0), refused(23));
             assert_eq!(dualrail_run(null(), 0, 5, 0, image.as_mut_ptr(), 544, odd, 0), 5 << 16);
             assert_eq!(dualrail_run(odd, 0, 0, 1, image.as_mut_ptr(), 544, null_mut(), 0), 20 << 48);
             assert_eq!(dualrail_run(null(), 0, 0, 0, null_mut(), 0, null_mut(), 0), 18 << 48);

@@ -8,6 +8,8 @@ use crate::paper::{
 };
 use crate::random::Random;
 
+pub mod moves;
+
 // ---------------------------------------------------------------- layouts
 
 /// One of the six layouts, each as often as the others.

@@ -5,6 +5,7 @@
 use crate::answer::{Answer, Dualrail, Layout};
 
 pub mod layout;
+pub mod moves;
 pub mod walk;
 
 /// Bytes of a state: the registers, then the cells.
@@ -582,13 +583,18 @@ fn to_image(layout: Layout, bits: &[u8], image: &mut [u8]) -> Answer {
     Answer::Counted(STATE as u32)
 }
 
+/// Condition 19 on the way back, of a state of the right length; r1 to r3 and the public places are free.
+fn is_no_image(layout: Layout, state: &[u8]) -> bool {
+    let uncoded =
+        |place: usize| kind_of_place(place) == Kind::Sensitive && layout.decoded(state[place]).is_none();
+    (0..STATE).any(uncoded) || state[0] != 0 || state[PAGE..] != table_page(layout)
+}
+
 fn from_image(layout: Layout, image: &[u8], bits: &mut [u8]) -> Answer {
     if image.len() != STATE || bits.len() != STATE {
         return refused(18, 0);
     }
-    let uncoded =
-        |place: usize| kind_of_place(place) == Kind::Sensitive && layout.decoded(image[place]).is_none();
-    if (0..STATE).any(uncoded) || image[0] != 0 || image[PAGE..] != table_page(layout) {
+    if is_no_image(layout, image) {
         return refused(19, 0);
     }
     for place in 0..STATE {
@@ -748,6 +754,9 @@ impl Dualrail for Paper {
     }
     fn from_image(&self, layout: Layout, image: &[u8], bits: &mut [u8]) -> Answer {
         in_layout(layout, || from_image(layout, image, bits))
+    }
+    fn move_image(&self, old: Layout, new: Layout, from: &[u8], into: &mut [u8]) -> Answer {
+        in_layout(old, || in_layout(new, || moves::move_image(old, new, from, into)))
     }
     fn run(&self, program: &[u16], start: u16, budget: u16, state: &mut [u8], trace: &mut [u16]) -> Answer {
         stored_program(program)

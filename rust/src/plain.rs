@@ -30,6 +30,16 @@ extern "C" {
         bits: *mut u8,
         bits_length: usize,
     ) -> u64;
+    fn plain_move_image(
+        old_position: u8,
+        old_spacing: u8,
+        new_position: u8,
+        new_spacing: u8,
+        from: *const u8,
+        from_length: usize,
+        into: *mut u8,
+        into_length: usize,
+    ) -> u64;
     fn plain_run(
         program: *const u16,
         program_length: usize,
@@ -76,6 +86,12 @@ impl Dualrail for Plain {
     fn from_image(&self, Layout { position, spacing }: Layout, image: &[u8], bits: &mut [u8]) -> Answer {
         Answer::from_count(unsafe {
             plain_from_image(position, spacing, image.as_ptr(), image.len(), bits.as_mut_ptr(), bits.len())
+        })
+    }
+    fn move_image(&self, old: Layout, new: Layout, from: &[u8], into: &mut [u8]) -> Answer {
+        Answer::from_count(unsafe {
+            plain_move_image(old.position, old.spacing, new.position, new.spacing,
+                from.as_ptr(), from.len(), into.as_mut_ptr(), into.len())
         })
     }
     fn run(&self, program: &[u16], start: u16, budget: u16, state: &mut [u8], trace: &mut [u16]) -> Answer {

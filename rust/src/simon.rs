@@ -71,10 +71,14 @@ pub fn programs(on: &dyn Dualrail, layout: Layout) -> (Vec<u16>, Vec<u16>) {
 /// Steps of one run; the next run goes on from the counter that it answers.
 const BUDGET: u16 = 25_000;
 
-/// Runs from line 0 to the end, as many runs as that takes; gives the whole trace.
+/// Runs from line 0 to the end; gives the whole trace.
 pub fn run_to_end(on: &dyn Dualrail, program: &[u16], state: &mut [u8]) -> Vec<u16> {
+    run_from(on, program, 0, state)
+}
+
+/// Runs from a line to the end, as many runs as that takes; gives the whole trace.
+pub fn run_from(on: &dyn Dualrail, program: &[u16], mut start: u16, state: &mut [u8]) -> Vec<u16> {
     let mut trace = vec![];
-    let mut start = 0;
     loop {
         let done = trace.len();
         trace.resize(done + ROW * BUDGET as usize, 0);

@@ -13,7 +13,7 @@ use std::panic::{catch_unwind, AssertUnwindSafe};
 use std::path::Path;
 
 /// How many requests of document 02 are in force: one more with each that lands.
-pub const IN_FORCE: u32 = 5;
+pub const IN_FORCE: u32 = 6;
 
 /// What the cases are called on.
 pub struct Tested<'a> {
@@ -75,7 +75,7 @@ mod tests {
     use crate::paper::Paper;
 
     /// A right case for each call, without its first two lines.
-    const RIGHT: [&str; 16] = [
+    const RIGHT: [&str; 20] = [
         "call read\ntext \"u,nop,,,,\\nx\"\nroom 13\nanswer refused 1 1\nwritten 6*0\n",
         "call read\ntext repeat 2 \"u,nop,,,,\\n\"\nroom 13\nanswer count 2\nwritten repeat 2 6*0\n",
         "call write\nprogram \"u,nop,,,,\\n\"\nroom 12\nanswer count 10\nout \"u,nop,,,,\\n\"\n",
@@ -99,6 +99,14 @@ mod tests {
          6*00 01 2*00 01 2*00 01 2*00 04 6*00 04 2*00 01 2*00 01 2*00 04 195*00 0401 14*00\nroom 544\n\
          answer count 544\nbytes 16*00 01 527*00\n",
         "call from-image\nlayout 0 2\nstate -\nroom 0\nanswer refused 23 0\n",
+        // Something in r1 to r3, 200 in r4, a 1 in r16.
+        "call move\nold 0 0\nnew 0 1\nstate 00 090807 c8 11*00 01 15*02 128*00 128*02 \
+         5*00 010200000202 10*00 010100000102 10*00 020100000102 197*00 0201 14*00\nroom 544\nanswer count 544\nbytes \
+         4*00 c8 11*00 01 15*04 128*00 128*04 3*00 01 2*00 04 2*00 04 2*00 04 6*00 01 2*00 01 2*00 01 2*00 04 \
+         6*00 04 2*00 01 2*00 01 2*00 04 195*00 0401 14*00\n",
+        "call move\nold 1 1\nnew 0 0\nstate 544*00\nroom 544\nanswer refused 19 0\n",
+        "call move\nold 0 0\nnew 0 0\nstate 544*00\nroom 543\nanswer refused 18 0\n",
+        "call move\nold 0 0\nnew 3 0\nstate -\nroom 1\nanswer refused 23 0\n",
     ];
 
     fn tally(contents: &str, report: &mut dyn FnMut(String)) -> Tally {
@@ -117,50 +125,70 @@ mod tests {
         assert_eq!(found, Tally { cases: RIGHT.len() as u32, differ: 0 }, "{reports}");
     }
 
+    /// What makes a case differ: which one, what stands there, and what in its place.
+    const DAMAGES: &[(usize, &str, &str)] = &[
+        (0, "refused 1 1", "refused 2 1"),
+        (0, "written 6*0\n", ""),
+        (1, "repeat 2 6*0", "repeat 2 5*0"),
+        (2, "out \"u", "out \"s"),
+        (3, "count 0", "count 1"),
+        (4, "14 1", "14 0"),
+        (5, "out \"u", "out \"s"),
+        (7, "01 15*02", "02 15*02"),
+        (8, "18 0", "18 0\nbytes 544*00"),
+        (9, "halted 1 1", "spent 1 1"),
+        (9, "row 0 3 3", "row 0 3 2"),
+        (9, "4=7", "4=6"),
+        (9, "changed 4=7", "note"),
+        (10, "spent", "balanced"),
+        (10, "sets 5 6 1 2", "sets 5 6 1 3"),
+        (11, "raw 3 17*00\n", ""),
+        (5, "layout 0 0", "layout 3 0"),
+        (12, "layout 1 1", "layout 1 0"),
+        (12, "layout 1 1\n", ""),
+        (13, "layout 0 1", "layout 1 0"),
+        (14, "layout 0 1", "layout 0 0"),
+        (15, "layout 0 2", "layout 0 1"),
+        (16, "old 0 0", "old 0 1"),
+        (16, "new 0 1", "new 1 1"),
+        (16, "old 0 0\nnew 0 1", "old 0 1\nnew 0 0"),
+        (16, "090807 c8", "090807 c9"),
+        (16, "bytes 4*00", "bytes 00 090807"),
+        (16, "c8 11*00 01 15*04", "c8 11*00 01 15*02"),
+        (16, "0401 14*00", "0201 14*00"),
+        (16, "answer count 544", "answer count 541"),
+        (17, "19 0", "18 0"),
+        (18, "room 543", "room 544"),
+        (18, "18 0", "18 0\nbytes 543*00"),
+        (19, "new 3 0", "new 2 0"),
+        // What cannot be read.
+        (0, "call read", "call reed"),
+        (0, "room 13", "room"),
+        (0, "room 13\n", ""),
+        (0, "room 13", "room 13\nroom 13"),
+        (0, "room 13", "room 5"),
+        (2, "program \"u", "program \"x"),
+        (2, "room 12", "room 12\nbudget 1"),
+        (5, "layout 0 0", "layout 0"),
+        (5, "layout 0 0", "layout 0 0 0"),
+        (5, "layout 0 0", "layout 256 0"),
+        (9, "start 0", "start 0\nlayout 0 0"),
+        (14, "layout 0 1", "layout 0 1\nnew 0 0"),
+        (16, "old 0 0\n", ""),
+        (16, "new 0 1\n", ""),
+        (16, "old 0 0", "layout 0 0"),
+        (16, "new 0 1", "new 0"),
+        (16, "new 0 1", "new 0 256"),
+        (9, "row 0 3 3", "row 0 3"),
+        (9, "4=7", "544=7"),
+        (10, "sets 5 6", "sets 5 544"),
+        (10, "sets 5 6 1 2", "sets 5 6 1 256"),
+        (11, "raw 3 17*00", "raw 3 16*00"),
+    ];
+
     #[test]
     fn cases_that_differ() {
-        let damages = [
-            (0, "refused 1 1", "refused 2 1"),
-            (0, "written 6*0\n", ""),
-            (1, "repeat 2 6*0", "repeat 2 5*0"),
-            (2, "out \"u", "out \"s"),
-            (3, "count 0", "count 1"),
-            (4, "14 1", "14 0"),
-            (5, "out \"u", "out \"s"),
-            (7, "01 15*02", "02 15*02"),
-            (8, "18 0", "18 0\nbytes 544*00"),
-            (9, "halted 1 1", "spent 1 1"),
-            (9, "row 0 3 3", "row 0 3 2"),
-            (9, "4=7", "4=6"),
-            (9, "changed 4=7", "note"),
-            (10, "spent", "balanced"),
-            (10, "sets 5 6 1 2", "sets 5 6 1 3"),
-            (11, "raw 3 17*00\n", ""),
-            (5, "layout 0 0", "layout 3 0"),
-            (12, "layout 1 1", "layout 1 0"),
-            (12, "layout 1 1\n", ""),
-            (13, "layout 0 1", "layout 1 0"),
-            (14, "layout 0 1", "layout 0 0"),
-            (15, "layout 0 2", "layout 0 1"),
-            // What cannot be read.
-            (0, "call read", "call reed"),
-            (0, "room 13", "room"),
-            (0, "room 13\n", ""),
-            (0, "room 13", "room 13\nroom 13"),
-            (0, "room 13", "room 5"),
-            (2, "program \"u", "program \"x"),
-            (2, "room 12", "room 12\nbudget 1"),
-            (5, "layout 0 0", "layout 0"),
-            (5, "layout 0 0", "layout 0 0 0"),
-            (5, "layout 0 0", "layout 256 0"),
-            (9, "start 0", "start 0\nlayout 0 0"),
-            (9, "row 0 3 3", "row 0 3"),
-            (9, "4=7", "544=7"),
-            (10, "sets 5 6", "sets 5 544"),
-            (10, "sets 5 6 1 2", "sets 5 6 1 256"),
-            (11, "raw 3 17*00", "raw 3 16*00"),
-        ];
-        for (which, from, to) in damages {
+        for &(which, from, to) in DAMAGES {
             let damaged = RIGHT[which].replacen(from, to, 1);
             assert_ne!(damaged, RIGHT[which], "{from} is not there");
             let mut reports = vec![];

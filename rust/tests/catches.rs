@@ -16,13 +16,19 @@ use std::ops::RangeInclusive;
 mod jumps;
 #[path = "catches/layouts.rs"]
 mod layouts;
+#[path = "catches/moves.rs"]
+mod moves;
 
 /// An entry point with a layout.
 type InLayout<T> = fn(Layout, &[T], &mut [T]) -> Answer;
+/// The entry point with two.
+type Move = fn(Layout, Layout, &[u8], &mut [u8]) -> Answer;
 /// What a line becomes in a layout.
 type Part = fn(Layout, &Line) -> Vec<Line>;
 /// A change of an image in a layout.
 type Change = fn(Layout, &mut [u8]);
+/// A change of a moved image, by the old layout and the new one, and by what it was before.
+type Moved = fn(Layout, Layout, &[u8], &mut [u8]);
 /// What a target becomes, by the starts of the lines and of the end, the jump's line, and the target.
 type Aim = fn(&[usize], usize, usize) -> usize;
 
@@ -34,6 +40,7 @@ struct Variant {
     expand: InLayout<u16>,
     to_image: InLayout<u8>,
     from_image: InLayout<u8>,
+    move_image: Move,
     run: fn(&[u16], u16, u16, &mut [u8], &mut [u16]) -> Answer,
     judge: fn(&[u16], &[u8], u16) -> Answer,
     /// The parts that an expansion is made of, if they are not the right ones.
@@ -43,9 +50,13 @@ struct Variant {
     /// What is done to an image after it is made, and before the way back from it.
     made: Change,
     given: Change,
-    /// What expand, to_image and from_image take for the layout handed over.
-    taken: [fn(Layout) -> Layout; 3],
-    /// The number that comes before 23 there, 0 if none does.
+    /// What is done to an image before it moves, in its old layout, and afterwards, in its new one or by both.
+    handed: Change,
+    arrived: Change,
+    moved: Moved,
+    /// What expand, to_image, from_image and, for the old and the new one, a move take for the layout handed over.
+    taken: [fn(Layout) -> Layout; 5],
+    /// The number that comes before 23 in the first three, 0 if none does.
     early: [u16; 3],
 }
 
@@ -57,18 +68,22 @@ const RIGHT: Variant = Variant {
     expand: |layout, program, out| Paper.expand(layout, program, out),
     to_image: |layout, bits, image| Paper.to_image(layout, bits, image),
     from_image: |layout, image, bits| Paper.from_image(layout, image, bits),
+    move_image: |old, new, from, into| Paper.move_image(old, new, from, into),
     run: |program, start, budget, state, trace| Paper.run(program, start, budget, state, trace),
     judge: |program, sets, budget| Paper.judge(program, sets, budget),
     part: None,
     targets: None,
     made: |_, _| (),
     given: |_, _| (),
-    taken: [|layout| layout; 3],
+    handed: |_, _| (),
+    arrived: |_, _| (),
+    moved: |_, _, _, _| (),
+    taken: [|layout| layout; 5],
     early: [0; 3],
 };
 
 impl Variant {
-    /// A call of entry point 0, 1 or 2 of those with a layout.
+    /// A call of entry point 0, 1 or 2 of those with one layout.
     fn in_layout<T: Clone>(
         &self,
         which: usize,
@@ -129,6 +144,19 @@ impl Dualrail for Variant {
             (self.from_image)(layout, &image, bits)
         };
         self.in_layout(2, entry, layout, (image, bits))
+    }
+    fn move_image(&self, old: Layout, new: Layout, from: &[u8], into: &mut [u8]) -> Answer {
+        let (old, new) = ((self.taken[3])(old), (self.taken[4])(new));
+        let mut handed = from.to_vec();
+        if old.is_one_of_six() && from.len() == STATE {
+            (self.handed)(old, &mut handed);
+        }
+        let answer = (self.move_image)(old, new, &handed, into);
+        if let Counted(_) = answer {
+            (self.moved)(old, new, from, into);
+            (self.arrived)(new, into);
+        }
+        answer
     }
     fn run(&self, program: &[u16], start: u16, budget: u16, state: &mut [u8], trace: &mut [u16]) -> Answer {
         (self.run)(program, start, budget, state, trace)
@@ -1657,6 +1685,8 @@ fn no_fault_but_the_named_ones() {
         part: Some(part),
         targets: Some((part, looked_up)),
         made: layouts::right_entries,
+        move_image: moves::composed,
+        arrived: layouts::right_entries,
         run: |program, start, budget, state, trace| {
             run_taking((program, start, budget), state, trace, |line, state| {
                 reading(line, state, |_, _| Reads::Right)
@@ -1679,7 +1709,7 @@ fn every_fault_is_found() {
     assert!(compare(&RIGHT, 2, 1, 200).is_ok());
     let named = |variant: Variant| (variant.fault.to_string(), variant);
     let whole = variants().into_iter().chain(jumps::variants()).map(named).chain(layouts::variants());
-    for (fault, variant) in whole {
+    for (fault, variant) in whole.chain(moves::variants()) {
         match compare(&variant, 2, 1, 10_000) {
             Ok(_) => panic!("not found: {fault}"),
             Err(report) => println!("{fault:60} {}", report.lines().next().unwrap()),

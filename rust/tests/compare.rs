@@ -1,7 +1,9 @@
 //! The library against the paper, on many random calls.
 
 use dualrail::compare::jumps::Jumps;
+use dualrail::compare::moves::Moves;
 use dualrail::compare::{compare, Counts, WITH_LAYOUT};
+use dualrail::generate::moves::Damage;
 use dualrail::paper::Opcode;
 use dualrail::plain::Plain;
 use dualrail::Library;
@@ -43,6 +45,7 @@ fn library_against_paper() {
     );
     layouts_are_met(&counts);
     jumps_are_met(&counts.jumps);
+    moves_are_met(&counts.moves);
 }
 
 /// Request 04: each of the six layouts often, in whole runs and walks too, and 23 before every other refusal.
@@ -93,6 +96,37 @@ fn jumps_are_met(jumps: &Jumps) {
         assert!(count >= 2_000, "programs full of jumps were refused with {number} {count} times only");
     }
     assert!(jumps.past_end >= 2_000 && jumps.line_short >= 2_000);
+}
+
+/// Request 06: each of the 36 pairs of layouts, everything that can be wrong with an image, and each refusal before the others.
+fn moves_are_met(moves: &Moves) {
+    let by_pair = [
+        ("moves", moves.done, 1_500),
+        ("moves refused with 19", moves.refused, 250),
+        ("moves there and back", moves.back, 150),
+        ("runs gone on", moves.gone_on, 150),
+        ("equal traces", moves.equal, 150),
+    ];
+    for (name, counts, least) in by_pair {
+        assert!(counts.as_flattened().iter().all(|&count| count >= least), "{name}: {counts:?} only");
+    }
+    assert!(moves.lines >= 20_000 && moves.equal_rows >= 500_000);
+    assert!(moves.scratch.iter().all(|&count| count >= 10_000) && moves.left_by_run >= 3_000);
+    for damage in Damage::all() {
+        let [taken, refused] = moves.damages[damage as usize];
+        let right = match damage {
+            _ if Damage::HARMLESS.contains(&damage) => taken >= 1_000 && refused == 0,
+            _ if Damage::REFUSED.contains(&damage) => taken == 0 && refused >= 1_000,
+            _ => taken >= 100 && refused >= 500,
+        };
+        assert!(right, "{damage:?}: taken {taken} times, refused {refused} times");
+    }
+    assert!(moves.lengths.iter().all(|&count| count >= 5_000) && moves.before_19 >= 2_000);
+    assert!(moves.outside.iter().all(|&count| count >= 5_000), "23 came {:?} times only", moves.outside);
+    for number in [0, 18, 19] {
+        let count = moves.before[number];
+        assert!(count >= 3_000, "23 of a move came before {number} {count} times only");
+    }
 }
 
 /// The measure of the benchmark does the same job.

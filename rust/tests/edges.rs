@@ -1,4 +1,4 @@
-//! The edges and examples that the papers print, and a few for the walk, for the layouts and for jumps.
+//! The edges and examples that the papers print, and a few for the walk, for the layouts, for jumps and for moves.
 
 use dualrail::paper::walk::SET;
 use dualrail::paper::{Paper, ROW, SIX, STATE};
@@ -759,5 +759,155 @@ fn jumps_with_their_own_targets() {
                 assert_eq!(expansion[SIX * start(line)..][..SIX], jump, "{layout:?}, line {line}");
             }
         }
+    });
+}
+
+/// An image in neighbours at 0 with something in each kind of place: r1 to r3 as a run leaves them, public places
+/// that look like codes, a 1 in r16, r31, cell 128 and cell 200.
+fn image_to_move(on: &dyn Dualrail) -> [u8; STATE] {
+    let mut bits = [0; STATE];
+    for (place, value) in [(4, 1), (15, 2), (32, 4), (32 + 127, 200)] {
+        bits[place] = value;
+    }
+    for place in [16, 31, 32 + 128, 32 + 200] {
+        bits[place] = 1;
+    }
+    let mut image = [0; STATE];
+    assert_eq!(on.to_image(Layout::LOWEST, &bits, &mut image), Counted(544));
+    image[1..=3].copy_from_slice(&[10, 2, 255]);
+    image
+}
+
+/// The move of a state that must succeed.
+fn moved(on: &dyn Dualrail, old: Layout, new: Layout, state: &[u8]) -> [u8; STATE] {
+    let mut into = [9; STATE];
+    assert_eq!(on.move_image(old, new, state, &mut into), Counted(544), "{old:?} to {new:?}");
+    into
+}
+
+/// Request 06: from neighbours at 0 (1 is 1, 0 is 2) to spaced at 2 (1 is 4, 0 is 16).
+#[test]
+fn a_move() {
+    each(|on| {
+        let image = image_to_move(on);
+        let mut wanted = [0; STATE];
+        for (place, value) in [(4, 1), (15, 2), (32, 4), (32 + 127, 200)] {
+            wanted[place] = value;
+        }
+        wanted[16..=31].fill(16);
+        wanted[32 + 128..=32 + 255].fill(16);
+        for place in [16, 31, 32 + 128, 32 + 200] {
+            wanted[place] = 4;
+        }
+        // Indices 12 (1, 1), 24 (1, 0), 36 (0, 1) and 48 (0, 0), tables at 256, 320 and 384.
+        let and = [(268, 4), (280, 16), (292, 16), (304, 16)];
+        let orr = [(332, 4), (344, 4), (356, 4), (368, 16)];
+        let xor = [(396, 16), (408, 4), (420, 4), (432, 16)];
+        for (cell, code) in [and, orr, xor].concat().into_iter().chain([(496, 16), (497, 4)]) {
+            wanted[32 + cell] = code;
+        }
+        assert_eq!(moved(on, Layout::LOWEST, SPACED_2, &image), wanted);
+    });
+}
+
+/// Request 06: there and back, and to its own layout: the same bytes, but for r1 to r3.
+#[test]
+fn moves_there_and_back() {
+    each(|on| {
+        let image = image_to_move(on);
+        let mut wanted = image;
+        wanted[1..=3].fill(0);
+        assert_eq!(moved(on, Layout::LOWEST, Layout::LOWEST, &image), wanted);
+        let mut state = image;
+        // Around through all six.
+        let layouts =
+            [Layout::LOWEST, SPACED_1, NEIGHBOURS_2, SPACED_0, NEIGHBOURS_1, SPACED_2, Layout::LOWEST];
+        for pair in layouts.windows(2) {
+            assert_eq!(moved(on, pair[1], pair[0], &moved(on, pair[0], pair[1], &state))[4..], state[4..]);
+            state = moved(on, pair[0], pair[1], &state);
+        }
+        assert_eq!(state, wanted);
+    });
+}
+
+/// Request 06: what is refused, in its order, with nothing written.
+#[test]
+fn moves_refused() {
+    each(|on| {
+        let image = image_to_move(on);
+        let outside = [Layout::at(3, 0), Layout::at(0, 2), Layout::at(255, 255)];
+        let mut into = [7; STATE];
+        for (from, size) in [(&image[..], STATE), (&[], 0), (&[255; STATE], STATE), (&image[1..], STATE + 1)]
+        {
+            for layout in outside {
+                let mut into = vec![7; size];
+                for (old, new) in [(layout, SPACED_0), (Layout::LOWEST, layout), (layout, layout)] {
+                    assert_eq!(on.move_image(old, new, from, &mut into), refused(23, 0), "{old:?}, {new:?}");
+                }
+                assert!(into.iter().all(|&byte| byte == 7));
+            }
+        }
+        let longer = [&image[..], &[0]].concat();
+        for from in [&image[..543], &longer, &[]] {
+            assert_eq!(on.move_image(Layout::LOWEST, SPACED_0, from, &mut into), refused(18, 0));
+        }
+        // 18 of the store before 19 of the state.
+        for from in [image, [255; STATE]] {
+            assert_eq!(on.move_image(Layout::LOWEST, SPACED_0, &from, &mut into[1..]), refused(18, 0));
+            assert_eq!(on.move_image(Layout::LOWEST, SPACED_0, &from, &mut [7; STATE + 1]), refused(18, 0));
+        }
+        assert_eq!(into, [7; STATE]);
+    });
+}
+
+/// Request 06: 19 by the rule of the way back, in the layout named as the old one, with nothing written.
+#[test]
+fn moves_judged_in_the_old_layout() {
+    each(|on| {
+        let image = image_to_move(on);
+        let mut into = [7; STATE];
+        // In r0, in each range of sensitive places, in the page; 4 is spaced at 0's code of 0.
+        let wrong =
+            [(0, 1), (16, 3), (17, 4), (31, 0), (160, 4), (287, 0), (288, 1), (32 + 496, 0), (543, 1)];
+        for (place, value) in wrong {
+            let mut damaged = image;
+            damaged[place] = value;
+            let answer = on.move_image(Layout::LOWEST, SPACED_0, &damaged, &mut into);
+            assert_eq!(answer, refused(19, 0), "{value} in place {place}");
+        }
+        // Judged in the old layout alone.
+        for old in &Layout::ALL[1..] {
+            assert_eq!(on.move_image(*old, Layout::LOWEST, &image, &mut into), refused(19, 0), "{old:?}");
+        }
+        // An image of before request 03.
+        let mut old = image;
+        old[32 + 496..=32 + 497].fill(0);
+        assert_eq!(on.move_image(Layout::LOWEST, Layout::LOWEST, &old, &mut into), refused(19, 0));
+        assert_eq!(into, [7; STATE]);
+    });
+}
+
+/// Request 06: a run of `not` in neighbours at 1, moved after its first line and finished in spaced at 0.
+#[test]
+fn a_run_that_moves() {
+    each(|on| {
+        let program = stored(on, "s,not,r16,r17,,\ns,and,r18,r16,#1,\n");
+        let mut first = [0; SIX * 18];
+        assert_eq!(on.expand(NEIGHBOURS_1, &program, &mut first), Counted(18));
+        let mut second = [0; SIX * 17];
+        assert_eq!(on.expand(SPACED_0, &program, &mut second), Counted(17));
+        let mut image = [0; STATE];
+        on.to_image(NEIGHBOURS_1, &[0; STATE], &mut image);
+        let answer = on.run(&first, 0, 5, &mut image, &mut [0; ROW * 5]);
+        assert_eq!(answer, Spent { counter: 5, steps: 5 });
+        // r1 still has the code of 1.
+        assert_eq!((image[1], image[16], image[17], image[18]), (2, 2, 4, 4));
+        let mut image = moved(on, NEIGHBOURS_1, SPACED_0, &image);
+        assert_eq!((image[1], image[16], image[17], image[18]), (0, 1, 4, 4));
+        let mut trace = [0; ROW * 12];
+        assert_eq!(on.run(&second, 5, 12, &mut image, &mut trace), Halted { counter: 17, steps: 12 });
+        assert_eq!((image[16], image[17], image[18]), (1, 4, 1));
+        // The first row: r1, which is 0 after the move, is cleared.
+        assert_eq!(trace[..ROW], [5, 0, 0, 0, 0, 0]);
     });
 }

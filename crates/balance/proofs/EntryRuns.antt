@@ -5,7 +5,6 @@ use mathlib.Core.Bool.{Bool, true, false, cond}
 use mathlib.Core.List.{List, [], _∷_, flatMap}
 use Prim.Native.Nat.{ℕ, _*_, _≤_}
 use native.Mathlib.Omega.{arith}
-use borrow.Author.Tests.{eq-eqb}
 use lib.Dec.{ltb}
 use lib.ListN.{length, take, drop, length-append}
 use lib.Seq.{take-at}
@@ -17,7 +16,7 @@ use Rattle.model.specs.Answers.{Report, done, counted, Outcome, outcome, atFron
 use Rattle.model.specs.Places.{State}
 use Rattle.model.specs.Stored.{codes, lineCount, lines, programCheck}
 use Rattle.model.specs.Run.{Ran, run, answer, runLeaves, runOutcome}
-use Rattle.model.specs.Images.{BitState, ButScratch, image, back, every, imageRight, carried, imageIn, bitsIn, fromImageOutcome}
+use Rattle.model.specs.Images.{BitState, ButScratch, image, back, every, imageRight, imageIn, bitsIn, fromImageOutcome}
 use Rattle.model.specs.Expansion.{start, expand, expansionIn}
 use Rattle.model.specs.Marks.{markCheck, Accepted}
 use Rattle.model.specs.Claims.{span}
@@ -26,7 +25,7 @@ use Rattle.model.proofs.PlaceLaws.{image-length}
 use Rattle.model.proofs.StoredLaws.{codes-length, CheckAnswer, accepts, refuses, check-answer}
 use Rattle.model.proofs.ExpansionLaws.{expansion-check, expansion-lines}
 use Rattle.model.proofs.BackLaws.{back-image, image-passes}
-use Rattle.model.proofs.OutcomeLaws.{never-done, run-outcome, expansion-written, image-made, inside, within, first-store}
+use Rattle.model.proofs.OutcomeLaws.{never-done, run-outcome, expansion-written, carried-goes, image-made, inside, within, first-store}
 use Rattle.model.proofs.CheckAnswers.{accepted-source}
 use Rattle.model.proofs.DemandThree.{equal-traces, correspondence}
 use Rattle.balance.specs.EntryClaims.{Expanded, Imaged, listing, SameCalls, EqualTraceStores, FollowingCalls, SourceFollowed, Twin, Followable}
@@ -44,7 +43,7 @@ checked-source p vs e = go (check-answer p) refl
 -- ---- what `expand` wrote is a stored program whose lines are the expansion
 
 pub record Listed (position spacing : ℕ) (p e : List ℕ) (n : ℕ) : Type 0 where
-  six : isSix position spacing ≡ true
+  pub six : isSix position spacing ≡ true
   pub known : Known (layoutOf position spacing)
   pub is : listing e n ≡ flatMap codes (expand (layoutOf position spacing) (lines p))
   pub fits : lineWidth * n ≤ length e
@@ -92,9 +91,28 @@ pub leaves-is : (p : List Line) (r : Ran) (x : List ℕ)
 unfolding runLeaves
 leaves-is p r x = ap (λ (a : Report). outcome a (r .state ∷ atFront (flatMap (λ q. q) (r .rows)) x ∷ [])) (answer-is p r)
 
+-- a run on what `expand` wrote leaves what the run of the expansion leaves
+pub listed-run : (position spacing : ℕ) (p e : List ℕ) (n : ℕ) → Listed position spacing p e n → (i b : ℕ) (v : State) (x : List ℕ) → length v ≡ stateSize → rowWidth * b ≤ length x
+    → let q = expand (layoutOf position spacing) (lines p) in
+    let r = run q b i v in
+    runOutcome (listing e n) i b v x ≡ outcome (done (ending q r ∷ r .at ∷ length (r .rows) ∷ [])) (r .state ∷ atFront (flatMap (λ z. z) (r .rows)) x ∷ [])
+listed-run position spacing p e n N i b v x h g =
+    let q = expand (layoutOf position spacing) (lines p) in
+    run-outcome (listing e n) i b (length q) v x (N .checked) h g ∙ ap (λ (a : List Line). runLeaves a (run a b i v) x) (N .lines-are) ∙ leaves-is q (run q b i v) x
+
+-- so on an image
+imaged-run : (position spacing : ℕ) (p e : List ℕ) (n : ℕ) → Listed position spacing p e n → (i b : ℕ) (s v : State) (x : List ℕ)
+    → BitState s → v ≡ image (layoutOf position spacing) s → rowWidth * b ≤ length x
+    → let q = expand (layoutOf position spacing) (lines p) in
+    let r = run q b i (image (layoutOf position spacing) s) in
+    runOutcome (listing e n) i b v x ≡ outcome (done (ending q r ∷ r .at ∷ length (r .rows) ∷ [])) (r .state ∷ atFront (flatMap (λ z. z) (r .rows)) x ∷ [])
+imaged-run position spacing p e n N i b s v x B h g =
+    let L = layoutOf position spacing in
+    ap (λ (a : State). runOutcome (listing e n) i b a x) h ∙ listed-run position spacing p e n N i b (image L s) x (image-length L s ∙ B .long) g
+
 -- ---- what `to_image` left is the image of a bit state
 
-imaged : (position spacing : ℕ) (s v : State) → Imaged position spacing s v → BitState s × (v ≡ image (layoutOf position spacing) s)
+pub imaged : (position spacing : ℕ) (s v : State) → Imaged position spacing s v → BitState s × (v ≡ image (layoutOf position spacing) s)
 imaged position spacing s v S =
     image-made (layoutOf position spacing) s (S .lent) v _ (within position spacing (S .lent ∷ []) (λ L. imageIn L s (S .lent)) (S .call) .then)
 
@@ -111,11 +129,6 @@ equal-trace-stores position spacing p e n E s t v w S U same k b x y hx hy =
     let one = run q b i (image L s) in
     let other = run q b i (image L t) in
     let R = equal-traces L (N .known) (lines p) (N .accepted) k b s t (A .0) (B .0) same in
-    let call : (u u′ : State) (z : List ℕ) → u′ ≡ image L u → BitState u → rowWidth * b ≤ length z → runOutcome (listing e n) i b u′ z ≡ runLeaves q (run q b i (image L u)) z =
-    λ u u′ z eu bu hz.
-    ap (λ (a : State). runOutcome (listing e n) i b a z) eu
-    ∙ run-outcome (listing e n) i b (length q) (image L u) z (N .checked) (image-length L u ∙ bu .long) hz
-    ∙ ap (λ (a : List Line). runLeaves a (run a b i (image L u)) z) (N .lines-are) in
     let answers : answer q one ≡ answer q other = R .answers in
     let rows : flatMap (λ r. r) (other .rows) ≡ flatMap (λ r. r) (one .rows) = ap (flatMap (λ r. r)) (sym (R .traces)) in
     record {
@@ -123,19 +136,19 @@ equal-trace-stores position spacing p e n E s t v w S U same k b x y hx hy =
       rows = flatMap (λ r. r) (one .rows);
       stateOne = one .state;
       stateOther = other .state;
-      oneCall = call s v x (A .1) (A .0) hx ∙ leaves-is q one x;
+      oneCall = imaged-run position spacing p e n N i b s v x (A .0) (A .1) hx;
       otherCall =
-          call t w y (B .1) (B .0) hy ∙ leaves-is q other y
+          imaged-run position spacing p e n N i b t w y (B .0) (B .1) hy
           ∙ ap₂ (λ (a : Report) (r : List ℕ). outcome a (other .state ∷ atFront r y ∷ [])) (sym (answer-is q other) ∙ sym answers ∙ answer-is q one) rows;
     }
 
 -- ---- (b)
 
 back-goes : (L : Layout) → Known L → (s v lent : State) → BitState s → ButScratch v (image L s) → length lent ≡ stateSize → bitsIn L v lent ≡ outcome (counted stateSize) (s ∷ [])
-unfolding carried ButScratch
+unfolding ButScratch
 back-goes L K s v lent b h l =
-    rw (eq-eqb (length v) stateSize (h .0 ∙ image-length L s ∙ b .long), eq-eqb (length lent) stateSize l, is-true (every (imageRight L) 0 v) (image-passes L s v b h))
-    (ap (λ (z : State). outcome (counted stateSize) (z ∷ [])) (back-image L K s v b h))
+    carried-goes (imageRight L) (back L) v lent (h .0 ∙ image-length L s ∙ b .long) l (is-true (every (imageRight L) 0 v) (image-passes L s v b h))
+    ∙ ap (λ (z : State). outcome (counted stateSize) (z ∷ [])) (back-image L K s v b h)
 
 pub source-followed : SourceFollowed
 source-followed position spacing p e n E s v S k m x y hx hy =
@@ -159,10 +172,7 @@ source-followed position spacing p e n E s v S k m x y hx hy =
       traceExpanded = atFront (flatMap (λ r. r) (expansion .rows)) y;
       sourceCall = run-outcome p k m (lineCount p) s x (N .source) (A .0 .long) hx ∙ leaves-is (lines p) source x;
       expansionCall =
-          ap (λ (a : State). runOutcome (listing e n) i b a y) (A .1)
-          ∙ run-outcome (listing e n) i b (length q) (image L s) y (N .checked) (image-length L s ∙ A .0 .long) hy
-          ∙ ap (λ (a : List Line). runLeaves a (run a b i (image L s)) y) (N .lines-are)
-          ∙ leaves-is q expansion y
+          imaged-run position spacing p e n N i b s v y (A .0) (A .1) hy
           ∙ ap₂ (λ (c l : ℕ). outcome (done (ending q expansion ∷ c ∷ l ∷ [])) (expansion .state ∷ atFront (flatMap (λ r. r) (expansion .rows)) y ∷ [])) (F .stands) (F .steps);
       image = F .holds;
       back = λ lent l. inside position spacing (lent ∷ []) (λ L. bitsIn L (expansion .state) lent) (N .six) ∙ back-goes L (N .known) (source .state) (expansion .state) lent (F .bits) (F .holds) l;

@@ -1,2 +1,3 @@
 pub mod EntryRuns
 pub mod VerdictCalls
+pub mod MoveCalls

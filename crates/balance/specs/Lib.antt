@@ -1,2 +1,3 @@
 pub mod EntryClaims
 pub mod VerdictClaims
+pub mod MoveClaims

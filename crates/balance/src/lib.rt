@@ -8,6 +8,7 @@ ghost use Rattle.model.specs.Run.{runOutcome};
 ghost use Rattle.balance.specs.EntryClaims.{Twin, SameCalls, Followable, FollowingCalls};
 use model::Answer;
 
+pub mod moves;
 pub mod verdicts;
 
 pub struct Twins {

@@ -8,6 +8,7 @@ ghost use Rattle.model.specs.Marks.{markCheck};
 ghost use Rattle.model.specs.Expansion.{expandOutcome};
 ghost use Rattle.model.specs.Images.{toImageOutcome, fromImageOutcome};
 ghost use Rattle.model.specs.Run.{runOutcome};
+ghost use Rattle.images.specs.Moving.{moveOutcome};
 ghost use Rattle.sets.specs.Walk.{told, verdictReport};
 ghost use Rattle.dualrail.specs.Packing.{packed, packedRun};
 use model::Answer;
@@ -99,6 +100,28 @@ pub extern "C" fn dualrail_from_image(
     ensures { λ _. ⌜ now (bits .exit) ∷ [] ≡ fromImageOutcome position spacing (now (image .entry)) (now (bits .entry)) .stores ⌝ }
 {
     pack(images::from_image(position, spacing, image, bits))
+}
+
+#[no_mangle]
+pub extern "C" fn dualrail_move_image(
+    old_position: u8,
+    old_spacing: u8,
+    new_position: u8,
+    new_spacing: u8,
+    from: &[u8],
+    into: &mut [u8],
+) -> u64
+    ensures { λ r. ⌜ r ≡ packed (moveOutcome «old_position» «old_spacing» «new_position» «new_spacing» (now (from .entry)) (now (into .entry)) .answer) ⌝ }
+    ensures { λ _. ⌜ now (into .exit) ∷ [] ≡ moveOutcome «old_position» «old_spacing» «new_position» «new_spacing» (now (from .entry)) (now (into .entry)) .stores ⌝ }
+{
+    pack(images::move_image(
+        old_position,
+        old_spacing,
+        new_position,
+        new_spacing,
+        from,
+        into,
+    ))
 }
 
 #[no_mangle]

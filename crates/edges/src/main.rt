@@ -1,8 +1,8 @@
 // The section Edges of document 01, the walk on sets of request 01, the shift counts of request 02, the public bits of request 03, the
-// layouts of request 04, the listings of jumps of request 05, and an input for every refusal: runs the cases of the file `stdin` beside
-// src/, prints `ok` or `WRONG` and the name of each, and the gate holds that to the file `stdout`. The cases are data, read beside the
-// paper, and more cost no proof; notation.rt has how they are written. All here is proved safe and ending; that the answers are right is
-// the contract of what it calls.
+// layouts of request 04, the listings of jumps of request 05, the moves of request 06, and an input for every refusal: runs the cases of
+// the file `stdin` beside src/, prints `ok` or `WRONG` and the name of each, and the gate holds that to the file `stdout`. The cases are
+// data, read beside the paper, and more cost no proof; notation.rt has how they are written. All here is proved safe and ending; that the
+// answers are right is the contract of what it calls.
 ghost use Prim.Native.Nat.{_≤_};
 ghost use lib.ListN.{length};
 use crate::notation::BEFORE;
@@ -162,11 +162,15 @@ fn runs_image(
     runs(line, program, image, trace)
 }
 
-// The way back from the image of the state, after the changes that stand in the place of a program.
+// The image of the state, after the changes that stand in the place of a program.
+fn changed_image(line: &[u8], state: &[u8], image: &mut [u8]) {
+    image_of(line, state, STATE_SIZE, image, STATE_SIZE);
+    put(field(line, PROGRAM), image, &mut [0u16; 0]);
+}
+
 fn makes_bits(line: &[u8], state: &[u8], bits: &mut [u8]) -> bool {
     let mut image = [0u8; STATE_ROOM];
-    image_of(line, state, STATE_SIZE, &mut image, STATE_SIZE);
-    put(field(line, PROGRAM), &mut image, &mut [0u16; 0]);
+    changed_image(line, state, &mut image);
     let from = size(line, 0, STATE_ROOM);
     let to = size(line, 1, bits.len());
     let answer = images::from_image(
@@ -176,6 +180,22 @@ fn makes_bits(line: &[u8], state: &[u8], bits: &mut [u8]) -> bool {
         &mut bits[0..to],
     );
     is_right(line, answer, bits, &[0u16; 0])
+}
+
+fn moves_image(line: &[u8], state: &[u8], moved: &mut [u8]) -> bool {
+    let mut image = [0u8; STATE_ROOM];
+    changed_image(line, state, &mut image);
+    let from = size(line, 0, STATE_ROOM);
+    let to = size(line, 1, moved.len());
+    let answer = images::move_image(
+        layout(line, 1),
+        layout(line, 2),
+        layout(line, 3),
+        layout(line, 4),
+        &image[0..from],
+        &mut moved[0..to],
+    );
+    is_right(line, answer, moved, &[0u16; 0])
 }
 
 // The verdict on the program, from the sets of the case.
@@ -208,6 +228,7 @@ fn comes_out_on(
         b't' => runs_image(line, program, state, bytes, numbers),
         b'i' => makes_image(line, state, bytes),
         b'b' => makes_bits(line, state, bytes),
+        b'o' => moves_image(line, state, bytes),
         b'j' => judges(line, program, bytes),
         _ => false,
     }

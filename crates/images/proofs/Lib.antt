@@ -3,3 +3,4 @@ pub mod Ranges
 pub mod KindRanges
 pub mod Carrying
 pub mod Placed
+pub mod Moving

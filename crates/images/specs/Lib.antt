@@ -1,2 +1,4 @@
 pub mod Pages
 pub mod Ranges
+pub mod Moving
+pub mod Claims

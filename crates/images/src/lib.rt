@@ -1,5 +1,5 @@
-// 'Code, tables, macros' of document 01, the tables and the images of bit states, and the way back: conditions 23, 18 and 19, then a store of
-// 544 bytes, by ranges of places of one kind.
+// 'Code, tables, macros' of document 01, the tables and the images of bit states, and the way back, and the moves of request 06: conditions 23,
+// 18 and 19, then a store of 544 bytes, by ranges of places of one kind.
 ghost use mathlib.Core.Path.{_≡_};
 ghost use mathlib.Core.Bool.{cond, _&&_};
 ghost use mathlib.Core.List.{[], _∷_};
@@ -13,6 +13,7 @@ ghost use Rattle.model.specs.Layouts.{Known};
 ghost use Rattle.model.specs.Images.{mapAt, back as backOf};
 ghost use Rattle.model.specs.Images.{bitRight, imageRight, every, imageIn, bitsIn, toImageOutcome, fromImageOutcome};
 ghost use Rattle.images.specs.Pages.{entries, Small, copied, pageBytes};
+ghost use Rattle.images.specs.Moving.{movedIn, moveOutcome};
 ghost use Rattle.images.specs.Ranges.{either, onPage, between, shifted, chosen, filled, placed};
 use model::Answer;
 use model::Layout;
@@ -227,7 +228,7 @@ fn are_states(one: &[u8], other: &[u8]) -> bool
     (one.len() == STATE_SIZE) & (other.len() == STATE_SIZE)
 }
 
-// The bodies of `to_image` and `from_image`: 18 for either length, then 19, else the store filled.
+// The bodies of the entry points below: 18 for either length, then 19, else the store filled.
 fn make_image(layout: Layout, bits: &[u8], image: &mut [u8]) -> Answer
     requires { ⌜ Known layout ⌝ }
     ensures { λ r. ⌜ outcome (report r) (now (image .exit) ∷ []) ≡ imageIn layout (now (bits .entry)) (now (image .entry)) ⌝ }
@@ -270,6 +271,28 @@ fn make_bits(layout: Layout, image: &[u8], bits: &mut [u8]) -> Answer
     }
 }
 
+fn make_moved(old: Layout, new: Layout, from: &[u8], into: &mut [u8]) -> Answer
+    requires { ⌜ Known old × Known new ⌝ }
+    ensures { λ r. ⌜ outcome (report r) (now (into .exit) ∷ []) ≡ movedIn old new (now (from .entry)) (now (into .entry)) ⌝ }
+{
+    if !are_states(from, into) {
+        return Answer::Refused {
+            number: 18,
+            line: 0,
+        };
+    }
+    let old_page = page_of(old);
+    if places_right(old, &old_page, from) {
+        let new_page = page_of(new);
+        put_places(&new_page, from, into, old.one, new.one, new.zero);
+        return Answer::Count(STATE_SIZE as u32);
+    }
+    Answer::Refused {
+        number: 19,
+        line: 0,
+    }
+}
+
 // The image of a bit state in the layout of that position and spacing: 544 bytes written, or 23, 18, then 19, with nothing touched.
 pub fn to_image(position: u8, spacing: u8, bits: &[u8], image: &mut [u8]) -> Answer
     ensures { λ r. ⌜ outcome (report r) (now (image .exit) ∷ []) ≡ toImageOutcome position spacing (now (bits .entry)) (now (image .entry)) ⌝ }
@@ -289,6 +312,31 @@ pub fn from_image(position: u8, spacing: u8, image: &[u8], bits: &mut [u8]) -> A
 {
     if coding::is_six(position, spacing) {
         return make_bits(coding::layout_of(position, spacing), image, bits);
+    }
+    Answer::Refused {
+        number: 23,
+        line: 0,
+    }
+}
+
+// Moves an image from the old layout to the new one, which may be the same: 544 bytes written, or 23 for either layout, 18, then 19 judged in the
+// old one by the rule of the way back, with nothing touched.
+pub fn move_image(
+    old_position: u8,
+    old_spacing: u8,
+    new_position: u8,
+    new_spacing: u8,
+    from: &[u8],
+    into: &mut [u8],
+) -> Answer
+    ensures { λ r. ⌜ outcome (report r) (now (into .exit) ∷ []) ≡ moveOutcome «old_position» «old_spacing» «new_position» «new_spacing» (now (from .entry)) (now (into .entry)) ⌝ }
+{
+    if coding::is_six(old_position, old_spacing) {
+        if coding::is_six(new_position, new_spacing) {
+            let old = coding::layout_of(old_position, old_spacing);
+            let new = coding::layout_of(new_position, new_spacing);
+            return make_moved(old, new, from, into);
+        }
     }
     Answer::Refused {
         number: 23,

@@ -1,5 +1,5 @@
 -- The way back from an image, whatever its scratch registers hold, passes condition 19 and is the bit state; and what passes it on the
--- way there is a bit state. Place by place. Assumes nothing.
+-- way there is a bit state, on the way back an image but for the scratch registers. Place by place. Assumes nothing.
 use mathlib.Core.Path.{_≡_, refl, sym, ap, _∙_, subst}
 use mathlib.Core.Bool.{Bool, true, false, cond, _||_}
 use mathlib.Core.List.{List, [], _∷_}
@@ -7,7 +7,7 @@ use mathlib.Core.Logic.{_⊎_, inl, inr}
 use Prim.Native.Nat.{ℕ, zero, suc, _+_, _-_, _≤_, _<_}
 use native.Mathlib.Nat.{zero-add, add-zero, suc-add, add-suc, not-suc-le-zero, le-of-suc-le-suc}
 use native.Mathlib.Omega.{arith}
-use borrow.Author.Tests.{le-ltb}
+use borrow.Author.Tests.{le-ltb, le-leb}
 use lib.Dec.{T, ltb, eqb, eqb→eq, eqb-refl, leb→le}
 use lib.ListN.{length, getD}
 use lib.Seq.{ext-getD}
@@ -17,7 +17,7 @@ use Rattle.model.specs.declared.Kind.{Kind}
 use Rattle.model.specs.declared.Kind.the-variants.{Neither, Public, Sensitive}
 use Rattle.model.specs.Places.{State, kind}
 use Rattle.model.specs.Code.{code, page}
-use Rattle.model.specs.Images.{Bit, BitState, fixed, imageAt, backAt, image, back, bitRight, imageRight, every, ButScratch}
+use Rattle.model.specs.Images.{Bit, BitState, fixed, imageAt, backAt, image, back, bitRight, fixedRight, imageRight, every, ButScratch}
 use Rattle.model.proofs.TestLaws.{holds, is-true, and-both, both-and}
 use Rattle.model.proofs.Finite.{code-back}
 use Rattle.model.proofs.PlaceLaws.{mapAt-length, mapAt-getD, image-length}
@@ -158,3 +158,68 @@ image-passes L s v b h = every-passes (imageRight L) 0 v (λ i g. subst (λ (m :
         let e : getD v i 0 ≡ imageAt L i (getD s i 0) =
         h .1 i (omega (arith, image-length L s, lv)) q ∙ mapAt-getD (imageAt L) 0 s i (omega (arith, lv)) ∙ ap (λ (j : ℕ). imageAt L j (getD s i 0)) (zero-add i) in
         subst (λ (x : ℕ). T (imageRight L i x)) (sym e) (image-right-at L i (getD s i 0) (b .bits i (omega (arith, lv, b .long))) (kind i) refl)
+
+-- ---- a bit state passes on the way there
+
+bit-right : (i x : ℕ) (k : Kind) → kind i ≡ k → Bit i x → T (bitRight i x)
+unfolding bitRight Bit
+bit-right i x Neither e h = rw e (subst (λ (y : ℕ). T (eqb y 0)) (sym (rw e at h)) tt)
+bit-right i x Public e h = rw e tt
+bit-right i x Sensitive e h = rw e (holds (le-leb x 1 (rw e at h)))
+
+pub bits-pass : (s : State) → BitState s → every bitRight 0 s ≡ true
+bits-pass s b =
+    is-true (every bitRight 0 s)
+    (every-passes bitRight 0 s (λ i h. subst (λ (j : ℕ). T (bitRight j (getD s i 0))) (sym (zero-add i)) (bit-right i (getD s i 0) (kind i) refl (b .bits i (omega (arith, b .long))))))
+
+-- ---- the way back from any state is a bit state, and what passes condition 19 there is its image but for the scratch registers
+
+one-of : (t : Bool) → cond t 1 0 ≤ 1
+one-of true = omega arith
+one-of false = omega arith
+
+back-is-bit : (L : Layout) (i x : ℕ) (k : Kind) → kind i ≡ k → Bit i (backAt L i x)
+unfolding Bit backAt
+back-is-bit L i x Neither e = rw e
+back-is-bit L i x Public e = rw e tt
+back-is-bit L i x Sensitive e = rw e (one-of (eqb x (code L 1)))
+
+coded-back : (L : Layout) (x : ℕ) → T (eqb x (code L 1) || eqb x (code L 0)) → x ≡ code L (cond (eqb x (code L 1)) 1 0)
+coded-back L x h = go (eqb x (code L 1)) refl h
+  where
+    go : (t : Bool) → eqb x (code L 1) ≡ t → T (t || eqb x (code L 0)) → x ≡ code L (cond t 1 0)
+    go true e g = eqb→eq x (code L 1) (holds e)
+    go false e g = eqb→eq x (code L 0) g
+
+fixed-back : (L : Layout) (i x : ℕ) → ((1 ≤ i) × (i ≤ 3) → ⊥) → T (fixedRight L i x) → x ≡ fixed L i
+unfolding fixedRight fixed
+fixed-back L zero x q h = eqb→eq x 0 h
+fixed-back L (suc zero) x q h = absurd (q (omega arith))
+fixed-back L (suc (suc zero)) x q h = absurd (q (omega arith))
+fixed-back L (suc (suc (suc zero))) x q h = absurd (q (omega arith))
+fixed-back L (suc (suc (suc (suc i)))) x q h = rw (le-ltb (suc (suc (suc (suc i)))) 4 (omega arith)) (eqb→eq x (page L (suc (suc (suc (suc i))) - 288)) (rw (le-ltb (suc (suc (suc (suc i)))) 4 (omega arith)) at h))
+
+image-back-at : (L : Layout) (i x : ℕ) → ((1 ≤ i) × (i ≤ 3) → ⊥) → T (imageRight L i x) → (k : Kind) → kind i ≡ k → x ≡ imageAt L i (backAt L i x)
+unfolding imageRight imageAt backAt
+image-back-at L i x q h Neither e = rw e (fixed-back L i x q (rw e at h))
+image-back-at L i x q h Public e = rw e
+image-back-at L i x q h Sensitive e = rw e (coded-back L x (rw e at h))
+
+module _ (L : Layout) (v : State) (long : length v ≡ 544) where
+  pub back-getD : (i : ℕ) → i < 544 → getD (back L v) i 0 ≡ backAt L i (getD v i 0)
+  unfolding back
+  back-getD i h = mapAt-getD (backAt L) 0 v i (omega arith) ∙ ap (λ (j : ℕ). backAt L j (getD v i 0)) (zero-add i)
+
+  pub back-bits : BitState (back L v)
+  unfolding back
+  back-bits = record { long = mapAt-length (backAt L) 0 v ∙ long; bits = λ i h. rw (back-getD i h) (back-is-bit L i (getD v i 0) (kind i) refl) }
+
+  pub image-back : every (imageRight L) 0 v ≡ true → ButScratch v (image L (back L v))
+  unfolding ButScratch image
+  image-back e = (sym (image-length L (back L v) ∙ back-bits .long ∙ sym long), λ i h q. at i (omega (arith, image-length L (back L v), back-bits .long)) q)
+    where
+      at : (i : ℕ) → i < 544 → ((1 ≤ i) × (i ≤ 3) → ⊥) → getD v i 0 ≡ getD (image L (back L v)) i 0
+      at i g q =
+          image-back-at L i (getD v i 0) q (subst (λ (j : ℕ). T (imageRight L j (getD v i 0))) (zero-add i) (every-at (imageRight L) 0 v (holds e) i (omega arith))) (kind i) refl
+          ∙ ap (imageAt L i) (sym (back-getD i g))
+          ∙ sym (mapAt-getD (imageAt L) 0 (back L v) i (omega (arith, back-bits .long)) ∙ ap (λ (j : ℕ). imageAt L j (getD (back L v) i 0)) (zero-add i))

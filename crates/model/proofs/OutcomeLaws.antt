@@ -101,6 +101,12 @@ carried-made right over from into result vs e =
     let w3 = passed-if (every right 0 from) _ 19 0 (into ∷ []) (w2 .then) in
     record { long = eqb-true _ _ (w1 .test); passes = w3 .test; made = sym (ap first-store (w3 .then)) }
 
+-- and where each test passes, that is what comes
+pub carried-goes : (right : ℕ → ℕ → Bool) (over : State → State) (from into : State) → length from ≡ stateSize → length into ≡ stateSize → every right 0 from ≡ true
+    → carried right over from into ≡ outcome (counted stateSize) (over from ∷ [])
+unfolding carried
+carried-goes right over from into g h e = rw (eq-eqb (length from) stateSize g, eq-eqb (length into) stateSize h, e)
+
 -- what `to_image` made is the image of a bit state
 pub image-made : (L : Layout) (bits into v : State) (vs : List ℕ) → imageIn L bits into ≡ outcome (done vs) (v ∷ []) → BitState bits × (v ≡ image L bits)
 image-made L bits into v vs e =

@@ -69,7 +69,7 @@ fn measure(name: &str, goal: f64, job: Job) -> f64 {
     }
     assert!(ours == theirs, "{name}: the results differ");
     let (library, plain) = (median(library), median(plain));
-    println!("{name:44} {library:10.1} {plain:10.1} {}", judged(library / plain, goal));
+    println!("{name:56} {library:10.1} {plain:10.1} {}", judged(library / plain, goal));
     library
 }
 
@@ -201,6 +201,20 @@ fn images() {
     }
 }
 
+/// Request 06: moves to another layout and to its own, many at once likewise.
+fn moves() {
+    let old = Layout::LOWEST;
+    let mut image = vec![0; STATE];
+    Library.to_image(old, &simon::load(simon::KEY, simon::PLAINTEXT), &mut image);
+    for new in [Layout::at(2, 1), old] {
+        let to = if new == old { "its own".to_string() } else { in_words(new) };
+        let name = format!("move_image, 1,000 calls, {} to {to}", in_words(old));
+        measure(&name, 1.0, &|on, memory| {
+            a_thousand(|| on.move_image(old, new, &image, &mut memory.bytes[..STATE]))
+        });
+    }
+}
+
 /// Makes a call a thousand times; gives the last answer.
 fn a_thousand(mut call: impl FnMut() -> Answer) -> Answer {
     for _ in 1..1_000 {
@@ -256,18 +270,19 @@ fn main() {
             "Built without the library: the paper's implementation, made for clarity, stands in its place."
         );
     }
-    println!("{:44} {:>10} {:>10} {:>8} {:>6}", "", "library", "plain C", "ratio", "goal");
+    println!("{:56} {:>10} {:>10} {:>8} {:>6}", "", "library", "plain C", "ratio", "goal");
 
     let (source, expansion) = simon::programs(&Library, Layout::LOWEST);
     runs(&source, &expansion);
     let step = walks(&expansion);
     let [jumps, more_jumps, lines] = expansions();
     images();
+    moves();
     let [read, write] = texts();
 
     println!("\nThe worst step of a walk found: {:.2} ms.", step / 1000.0);
     println!("\nThe library alone, ratios of its medians:");
-    let alone = |name: &str, ratio: f64, goal: f64| println!("{name:66} {}", judged(ratio, goal));
+    let alone = |name: &str, ratio: f64, goal: f64| println!("{name:78} {}", judged(ratio, goal));
     alone("expand, 1,024 jumps to line 1,024 against to line 0", jumps, 1.1);
     alone("expand, 1,024 jumps against 4 times 256 jumps", more_jumps, 1.2);
     alone("expand, 1,024 lines against 4 times 256 lines", lines, 1.2);

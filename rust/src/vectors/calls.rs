@@ -30,6 +30,7 @@ pub fn call(tested: &Tested, case: &Case) -> Result<Called, String> {
         "check" => (&["program", "stored"], check),
         "expand" => (&["layout", "program", "stored", "room", "out"], expand),
         "to-image" | "from-image" => (&["layout", "state", "room", "bytes"], image),
+        "move" => (&["old", "new", "state", "room", "bytes"], image),
         "run" => (&["program", "stored", "state", "start", "budget", "room", "row", "changed"], run),
         "walk" => (&["program", "stored", "values", "sets", "raw", "rest", "length", "budget"], walk),
         "print-expansion" | "print-trace" => (&["text", "out"], print),
@@ -143,14 +144,19 @@ fn program(tested: &Tested, case: &Case) -> Result<Memory<u16>, String> {
     }
 }
 
-/// The layout handed over, right or not.
+/// The layout handed over, right or not; none named is neighbours at 0.
 fn layout(case: &Case) -> Result<Layout, String> {
-    let Some(value) = case.optional("layout")? else {
-        return Ok(Layout::LOWEST);
-    };
-    match parse::list(value)?[..] {
+    match case.optional("layout")? {
+        Some(_) => named_layout(case, "layout"),
+        None => Ok(Layout::LOWEST),
+    }
+}
+
+/// The layout of a key that stands once.
+fn named_layout(case: &Case, key: &str) -> Result<Layout, String> {
+    match parse::list(case.one(key)?)?[..] {
         [position, spacing] => Ok(Layout::at(position, spacing)),
-        _ => Err("`layout` is not two numbers".to_string()),
+        _ => Err(format!("`{key}` is not two numbers")),
     }
 }
 
@@ -193,10 +199,11 @@ fn image(tested: &Tested, case: &Case) -> Result<Called, String> {
     if case.optional("bytes")?.is_some() {
         lent.expect(&case.bytes("bytes")?)?;
     }
-    let layout = layout(case)?;
+    let (on, from, into) = (tested.library, state.part(), lent.part_mut());
     let answer = match case.one("call")? {
-        "to-image" => tested.library.to_image(layout, state.part(), lent.part_mut()),
-        _ => tested.library.from_image(layout, state.part(), lent.part_mut()),
+        "to-image" => on.to_image(layout(case)?, from, into),
+        "from-image" => on.from_image(layout(case)?, from, into),
+        _ => on.move_image(named_layout(case, "old")?, named_layout(case, "new")?, from, into),
     };
     called(case, answer, state.fault() + &lent.fault())
 }

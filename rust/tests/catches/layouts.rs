@@ -151,7 +151,7 @@ fn sensitive(state: &mut [u8]) -> impl Iterator<Item = &mut u8> {
     places.filter(|(place, _)| kind_of_place(*place) == Kind::Sensitive).map(|(_, value)| value)
 }
 
-const MADE: [(&str, Change); 12] = [
+pub const MADE: [(&str, Change); 12] = [
     ("entries not 2^p apart", |layout, image| {
         entries_at(layout, image, |layout, table, a, b| {
             (layout.table(table) + layout.index(a, b) / layout.power()) as usize
@@ -205,7 +205,7 @@ const MADE: [(&str, Change); 12] = [
 // ---------------------------------------------------------------- the way back
 
 /// Takes what is no code of the layout for the code of this bit.
-fn taking(layout: Layout, image: &mut [u8], bit: impl Fn(u8) -> Option<u8>) {
+pub fn taking(layout: Layout, image: &mut [u8], bit: impl Fn(u8) -> Option<u8>) {
     for code in sensitive(image) {
         if layout.decoded(*code).is_none() {
             *code = bit(*code).map_or(*code, |bit| layout.code(bit));
@@ -214,13 +214,13 @@ fn taking(layout: Layout, image: &mut [u8], bit: impl Fn(u8) -> Option<u8>) {
 }
 
 /// Takes the table pages of these layouts for the right one.
-fn taking_pages(layout: Layout, image: &mut [u8], others: &[Layout]) {
+pub fn taking_pages(layout: Layout, image: &mut [u8], others: &[Layout]) {
     if others.iter().any(|&other| image[PAGE..] == table_page(other)) {
         image[PAGE..].copy_from_slice(&table_page(layout));
     }
 }
 
-const GIVEN: [(&str, Change); 11] = [
+pub const GIVEN: [(&str, Change); 11] = [
     ("19 by the codes of position 0", |layout, image| {
         sensitive(image).for_each(|code| *code = code.wrapping_mul(layout.power()))
     }),
@@ -253,7 +253,7 @@ const GIVEN: [(&str, Change); 11] = [
 // ---------------------------------------------------------------- counts and refusals
 
 /// The answer with 23 at another line.
-fn at_line_1(answer: Answer) -> Answer {
+pub fn at_line_1(answer: Answer) -> Answer {
     match answer {
         Refused { number: 23, .. } => Refused { number: 23, line: 1 },
         answer => answer,
@@ -329,7 +329,7 @@ const OTHERS: [Variant; 9] = [
 
 // ---------------------------------------------------------------- for each entry point
 
-const TAKEN: [(&str, fn(Layout) -> Layout); 13] = [
+pub const TAKEN: [(&str, fn(Layout) -> Layout); 13] = [
     ("position 3 taken for 2", |layout| match layout.position {
         3 => Layout { position: 2, ..layout },
         _ => layout,
