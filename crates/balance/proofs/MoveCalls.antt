@@ -2,17 +2,16 @@
 -- one, which is what `to_image` leaves of the bit state that `from_image` gives. Assumes nothing.
 use mathlib.Core.Path.{_≡_, refl, sym, ap, ap₂, _∙_, subst, subst₂}
 use mathlib.Core.Bool.{true}
-use mathlib.Core.List.{List, [], _∷_, flatMap}
+use mathlib.Core.List.{List, [], _∷_}
 use Prim.Native.Nat.{ℕ, _+_, _*_, _≤_}
-use lib.ListN.{length, getD}
-use Rattle.model.specs.declared.Layout.{Layout}
+use lib.ListN.{length}
 use Rattle.model.specs.Layouts.{layoutOf, isSix, Known, inLayout}
 use Rattle.model.specs.Limits.{stateSize, rowWidth}
-use Rattle.model.specs.Answers.{Report, done, counted, Outcome, outcome, atFront}
+use Rattle.model.specs.Answers.{Report, done, counted, Outcome, outcome}
 use Rattle.model.specs.Places.{State}
 use Rattle.model.specs.Stored.{lines}
-use Rattle.model.specs.Run.{Ran, run, runLeaves, runOutcome}
-use Rattle.model.specs.Images.{BitState, SamePublic, ButScratch, image, back, bitRight, imageRight, imageIn, bitsIn, toImageOutcome}
+use Rattle.model.specs.Run.{Ran, run, runOutcome}
+use Rattle.model.specs.Images.{BitState, ButScratch, image, back, bitRight, imageRight, imageIn, bitsIn, toImageOutcome}
 use Rattle.model.specs.Expansion.{start, expand}
 use Rattle.model.specs.Claims.{span}
 use Rattle.model.proofs.PlaceLaws.{image-length}
@@ -22,8 +21,8 @@ use Rattle.images.specs.Moving.{StoredImage, moved, movedIn, moveOutcome}
 use Rattle.images.specs.Claims.{Cleared, oldRun, newRun}
 use Rattle.model.proofs.DemandThree.{correspondence}
 use Rattle.images.proofs.Moving.{stored, there-and-back, continued, same-back}
-use Rattle.balance.specs.EntryClaims.{Expanded, Imaged, listing, SameCalls, Twin}
-use Rattle.balance.specs.MoveClaims.{stateLeft, Moved, ByBits, MovedByBits, HomeCall, MovedHome, Continuing, ContinuedCalls, MovedTwin}
+use Rattle.balance.specs.EntryClaims.{listing, SameCalls, Twin}
+use Rattle.balance.specs.MoveClaims.{stateLeft, Moved, MovedByBits, MovedHome, Continuing, ContinuedCalls, MovedTwin}
 use Rattle.balance.proofs.EntryRuns.{Listed, listed, imaged, ending, listed-run}
 
 -- ---- a move that was not refused

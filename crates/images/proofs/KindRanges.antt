@@ -12,9 +12,9 @@ use Rattle.model.specs.declared.Kind.the-variants.{Neither, Public, Sensitive}
 use Rattle.model.specs.Limits.{stateSize}
 use Rattle.model.specs.Places.{State, kind}
 use Rattle.model.specs.Code.{code}
-use Rattle.model.specs.Images.{mapAt, backAt, back, bitRight, fixedRight, imageRight, every}
+use Rattle.model.specs.Images.{mapAt, bitRight, fixedRight, imageRight, every}
 use Rattle.images.specs.Pages.{pageBytes}
-use Rattle.images.specs.Ranges.{between, either, onPage, filled, shifted, chosen, placed}
+use Rattle.images.specs.Ranges.{between, either, onPage, filled, kept, chosen, placed}
 use Rattle.images.proofs.Tables.{page-fixed, high-fixed}
 use Rattle.images.proofs.Ranges.{tested, skipped, none-left, none-done, range-done, all-done}
 
@@ -45,7 +45,7 @@ module _ (j : ℕ) where
   unfolding kind
   page-cell g = rw (le-ltb j 4 (omega arith), le-ltb j 16 (omega arith), le-ltb j 32 (omega arith), le-ltb j 160 (omega arith), le-ltb j 288 g)
 
--- either of one byte is that byte; a choice of 0 and 0 is 0; a byte no place before
+-- either of one byte is that byte; a choice of 0 and 0 is 0
 twice : (b : Bool) → (b || b) ≡ b
 twice true = refl
 twice false = refl
@@ -53,9 +53,6 @@ twice false = refl
 none : (t : Bool) → _≡_ {A = ℕ} (cond t 0 0) 0
 none true = refl
 none false = refl
-
-unshifted : (s : List ℕ) (j : ℕ) → getD s j 0 ≡ shifted s 0 j
-unshifted s j = let q : j - 0 ≡ j = omega arith in rw q
 
 -- ---- bit states
 
@@ -151,64 +148,31 @@ module _ (L : Layout) where
 
 -- ---- what is written, from store to store
 
-module _ (page : List ℕ) (key x y : ℕ) where
+module _ (key x y : ℕ) where
   module _ (j b : ℕ) where
-    placed-scratch : j < 4 → placed page key x y j b ≡ 0
+    placed-neither : kind j ≡ Neither → placed key x y j b ≡ 0
     unfolding placed
-    placed-scratch h = rw (scratch j h, lt-ltb j 4 h)
+    placed-neither e = rw e
 
-    placed-copied : kind j ≡ Public → placed page key x y j b ≡ b
+    placed-copied : kind j ≡ Public → placed key x y j b ≡ b
     unfolding placed
     placed-copied e = rw e
 
-    placed-chosen : kind j ≡ Sensitive → placed page key x y j b ≡ cond (eqb b key) x y
+    placed-chosen : kind j ≡ Sensitive → placed key x y j b ≡ cond (eqb b key) x y
     unfolding placed
     placed-chosen e = rw e
 
-    placed-page : 288 ≤ j → placed page key x y j b ≡ getD page (j - 288) 0
-    unfolding placed
-    placed-page g = rw (page-cell j g, le-ltb j 4 (omega arith))
-
   pub placed-by-range : (s d one two three four five six : State) → length s ≡ stateSize → length d ≡ stateSize
-      → one ≡ filled (chosen s 0 0 0) 0 4 d → two ≡ filled (shifted s 0) 4 12 one → three ≡ filled (chosen s key x y) 16 16 two
-      → four ≡ filled (shifted s 0) 32 128 three → five ≡ filled (chosen s key x y) 160 128 four → six ≡ filled (shifted page 288) 288 256 five
-      → six ≡ mapAt (placed page key x y) 0 s
+      → one ≡ filled (chosen s 0 0 0) 0 4 d → two ≡ filled (kept s) 4 12 one → three ≡ filled (chosen s key x y) 16 16 two
+      → four ≡ filled (kept s) 32 128 three → five ≡ filled (chosen s key x y) 160 128 four → six ≡ filled (chosen s 0 0 0) 288 256 five
+      → six ≡ mapAt (placed key x y) 0 s
   placed-by-range s d one two three four five six h g e1 e2 e3 e4 e5 e6 =
-      let f = placed page key x y in
+      let f = placed key x y in
       let q : length s ≡ length d = omega arith in
-      let w1 = range-done f s d q (chosen s 0 0 0) d 0 4 (omega arith) (λ j a b. placed-scratch j (getD s j 0) (omega arith) ∙ sym (none (eqb (getD s j 0) 0))) (none-done f s d q) in
-      let w2 = range-done f s d q (shifted s 0) one 4 12 (omega arith) (λ j a b. placed-copied j (getD s j 0) (public-register j a (omega arith)) ∙ unshifted s j) (e1 ∙ w1) in
+      let w1 = range-done f s d q (chosen s 0 0 0) d 0 4 (omega arith) (λ j a b. placed-neither j (getD s j 0) (scratch j (omega arith)) ∙ sym (none (eqb (getD s j 0) 0))) (none-done f s d q) in
+      let w2 = range-done f s d q (kept s) one 4 12 (omega arith) (λ j a b. placed-copied j (getD s j 0) (public-register j a (omega arith))) (e1 ∙ w1) in
       let w3 = range-done f s d q (chosen s key x y) two 16 16 (omega arith) (λ j a b. placed-chosen j (getD s j 0) (sensitive-register j a (omega arith))) (e2 ∙ w2) in
-      let w4 = range-done f s d q (shifted s 0) three 32 128 (omega arith) (λ j a b. placed-copied j (getD s j 0) (public-cell j a (omega arith)) ∙ unshifted s j) (e3 ∙ w3) in
+      let w4 = range-done f s d q (kept s) three 32 128 (omega arith) (λ j a b. placed-copied j (getD s j 0) (public-cell j a (omega arith))) (e3 ∙ w3) in
       let w5 = range-done f s d q (chosen s key x y) four 160 128 (omega arith) (λ j a b. placed-chosen j (getD s j 0) (sensitive-cell j a (omega arith))) (e4 ∙ w4) in
-      let w6 = range-done f s d q (shifted page 288) five 288 256 (omega arith) (λ j a b. placed-page j (getD s j 0) a) (e5 ∙ w5) in
+      let w6 = range-done f s d q (chosen s 0 0 0) five 288 256 (omega arith) (λ j a b. placed-neither j (getD s j 0) (page-cell j a) ∙ sym (none (eqb (getD s j 0) 0))) (e5 ∙ w5) in
       all-done f s d q six 544 (omega arith) (e6 ∙ w6)
-
-module _ (L : Layout) where
-  module _ (j x : ℕ) where
-    back-neither : kind j ≡ Neither → backAt L j x ≡ 0
-    unfolding backAt
-    back-neither e = rw e
-
-    back-copied : kind j ≡ Public → backAt L j x ≡ x
-    unfolding backAt
-    back-copied e = rw e
-
-    back-decoded : kind j ≡ Sensitive → backAt L j x ≡ cond (eqb x (L .one)) 1 0
-    unfolding backAt code
-    back-decoded e = rw e
-
-  module _ (s d one two three four five six : State) (h : length s ≡ stateSize) (g : length d ≡ stateSize) where
-    pub back-by-range : one ≡ filled (chosen s 0 0 0) 0 4 d → two ≡ filled (shifted s 0) 4 12 one → three ≡ filled (chosen s (L .one) 1 0) 16 16 two
-        → four ≡ filled (shifted s 0) 32 128 three → five ≡ filled (chosen s (L .one) 1 0) 160 128 four → six ≡ filled (chosen s 0 0 0) 288 256 five → six ≡ back L s
-    unfolding back
-    back-by-range e1 e2 e3 e4 e5 e6 =
-        let f = backAt L in
-        let q : length s ≡ length d = omega arith in
-        let w1 = range-done f s d q (chosen s 0 0 0) d 0 4 (omega arith) (λ j a b. back-neither j (getD s j 0) (scratch j (omega arith)) ∙ sym (none (eqb (getD s j 0) 0))) (none-done f s d q) in
-        let w2 = range-done f s d q (shifted s 0) one 4 12 (omega arith) (λ j a b. back-copied j (getD s j 0) (public-register j a (omega arith)) ∙ unshifted s j) (e1 ∙ w1) in
-        let w3 = range-done f s d q (chosen s (L .one) 1 0) two 16 16 (omega arith) (λ j a b. back-decoded j (getD s j 0) (sensitive-register j a (omega arith))) (e2 ∙ w2) in
-        let w4 = range-done f s d q (shifted s 0) three 32 128 (omega arith) (λ j a b. back-copied j (getD s j 0) (public-cell j a (omega arith)) ∙ unshifted s j) (e3 ∙ w3) in
-        let w5 = range-done f s d q (chosen s (L .one) 1 0) four 160 128 (omega arith) (λ j a b. back-decoded j (getD s j 0) (sensitive-cell j a (omega arith))) (e4 ∙ w4) in
-        let w6 = range-done f s d q (chosen s 0 0 0) five 288 256 (omega arith) (λ j a b. back-neither j (getD s j 0) (page-cell j a) ∙ sym (none (eqb (getD s j 0) 0))) (e5 ∙ w5) in
-        all-done f s d q six 544 (omega arith) (e6 ∙ w6)

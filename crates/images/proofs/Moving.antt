@@ -1,14 +1,11 @@
 -- Req 06, the claims. What the way back takes is an image of the bit state that it gives but for r1 to r3, so a moved image is the image in
 -- the new layout of the same bit state, and what is shown of images is shown of it. Assumes nothing.
 use mathlib.Core.Path.{_≡_, refl, sym, ap, _∙_, subst}
-use mathlib.Core.Bool.{true}
-use mathlib.Core.List.{List}
 use Prim.Native.Nat.{ℕ, zero, suc, _+_, _≤_, _<_}
 use native.Mathlib.Nat.{zero-add, not-suc-le-zero}
 use native.Mathlib.Omega.{arith}
 use lib.ListN.{length, getD}
 use Rattle.model.specs.declared.Layout.{Layout}
-use Rattle.model.specs.declared.Line.{Line}
 use Rattle.model.specs.declared.Kind.the-variants.{Neither, Public, Sensitive}
 use Rattle.model.specs.Limits.{stateSize}
 use Rattle.model.specs.Places.{State, kind}
@@ -25,7 +22,7 @@ use Rattle.model.proofs.BackLaws.{back-image, image-passes, back-getD, back-bit
 use Rattle.model.proofs.Runs.{run-add}
 use Rattle.model.proofs.DemandThree.{equal-traces, correspondence}
 use Rattle.images.specs.Moving.{StoredImage, moved}
-use Rattle.images.specs.Claims.{MovedPlaces, EachPlace, Cleared, ComesHome, ThereAndBack, oldRun, newRun, Continues, Continued, AlikeMoved, EqualFromTheMove}
+use Rattle.images.specs.Claims.{EachPlace, Cleared, ThereAndBack, oldRun, Continued, EqualFromTheMove}
 
 -- ---- states that agree but for r1 to r3
 

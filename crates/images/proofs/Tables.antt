@@ -1,6 +1,6 @@
 -- The table page that is made of the constant tables, against the definition's: one test of all cells in each of the six layouts.
 -- Assumes nothing.
-use mathlib.Core.Path.{_≡_, sym, ap, _∙_}
+use mathlib.Core.Path.{_≡_, refl, sym, ap, _∙_}
 use mathlib.Core.List.{List, [], _∷_}
 use mathlib.Core.Bool.{Bool, true, false, cond, _&&_}
 use Prim.Native.Nat.{ℕ, zero, suc, _+_, _-_, _*_, _≤_, _<_}
@@ -9,7 +9,8 @@ use native.Mathlib.Numerals.{add-one}
 use native.Mathlib.Omega.{arith}
 use borrow.Author.Tests.{le-ltb}
 use lib.Dec.{T, eqb, ltb, leb, leb→le, ltb→lt}
-use lib.ListN.{length, getD, replicate, set}
+use lib.ListN.{length, getD, replicate, set, take, drop, length-set, length-drop, length-replicate, getD-replicate}
+use lib.Seq.{drop-set-add, take-set-le, getD-take, getD-drop, ext-getD}
 use Rattle.model.specs.declared.Layout.{Layout}
 use Rattle.model.specs.Limits.{stateSize}
 use Rattle.model.specs.Layouts.{layoutOf, Known}
@@ -19,11 +20,11 @@ use Rattle.model.specs.Code.{code, entry, page}
 use Rattle.model.specs.declared.Opcode.{Opcode}
 use Rattle.model.specs.declared.Opcode.the-variants.{And, Orr, Xor}
 use Rattle.model.specs.Images.{mapAt, fixed, fixedRight, every}
-use Rattle.model.proofs.TestLaws.{is-true, and-both, allBelow, all-below}
+use Rattle.model.proofs.TestLaws.{is-true, and-both, allBelow, all-below, below}
 use Rattle.model.proofs.SpellingLaws.{same-bytes}
 use Rattle.model.proofs.Finite.{tableOp, forLayouts, for-layouts}
 use Rattle.model.proofs.PlaceLaws.{mapAt-length, mapAt-getD}
-use Rattle.images.specs.Pages.{entries, Small, copied, pageBytes}
+use Rattle.images.specs.Pages.{entries, Small, reachedBy, copied, paged, pageBytes}
 
 -- ---- a table's entries are small, so that none overflows when it is scaled
 
@@ -61,36 +62,41 @@ scaled-small u x h g = mul-le-mul {n₂ = 4} {m₂ = 4} h g
 
 -- ---- copying
 
-module _ (L : Layout) (and orr xor : List ℕ) where
-  -- one more entry of each
-  pub copied-next : (old new : List ℕ) (k : ℕ) → new ≡ copied L and orr xor old k
-      → set (set (set new (L .one * k) (L .one * getD and k 0)) (L .orr + L .one * k) (L .one * getD orr k 0)) (L .xor + L .one * k) (L .one * getD xor k 0)
-      ≡ copied L and orr xor old (k + 1)
-  unfolding copied
-  copied-next old new k e = rw (add-one k, e)
+-- of 16 entries
+pub reached-entry : (spaced : Bool) (k : ℕ) → k < 4 → reachedBy spaced k < 16
+unfolding reachedBy
+reached-entry true k h = omega arith
+reached-entry false zero h = omega arith
+reached-entry false (suc zero) h = omega arith
+reached-entry false (suc (suc zero)) h = omega arith
+reached-entry false (suc (suc (suc zero))) h = omega arith
+reached-entry false (suc (suc (suc (suc k)))) h = absurd (omega arith)
 
-  pub copied-all : (old new : List ℕ) (k : ℕ) → k ≤ 16 → 16 ≤ k → new ≡ copied L and orr xor old k → new ≡ copied L and orr xor old 16
-  copied-all old new k h g e = let q : k ≡ 16 = omega arith in e ∙ ap (copied L and orr xor old) q
+module _ (L : Layout) (start : ℕ) (and orr xor : List ℕ) where
+  -- one more entry of each
+  pub copied-next : (old new : List ℕ) (k i : ℕ) → i ≡ reachedBy (L .spaced) k → new ≡ copied L start and orr xor old k
+      → set (set (set new (start + L .one * i) (L .one * getD and i 0)) (start + L .one * i + L .orr) (L .one * getD orr i 0)) (start + L .one * i + L .xor) (L .one * getD xor i 0)
+      ≡ copied L start and orr xor old (k + 1)
+  unfolding copied
+  copied-next old new k i q e = rw (add-one k, q, e)
+
+  pub copied-all : (old new : List ℕ) (k : ℕ) → k ≤ 4 → 4 ≤ k → new ≡ copied L start and orr xor old k → new ≡ copied L start and orr xor old 4
+  copied-all old new k h g e = let q : k ≡ 4 = omega arith in e ∙ ap (copied L start and orr xor old) q
 
 -- ---- the page
 
--- as it is made
-abbrev made : Layout → List ℕ
-made L =
-    set (set (copied L (entries (L .spaced) And) (entries (L .spaced) Orr) (entries (L .spaced) Xor) (replicate 256 0) 16) 240 (L .zero)) 241 (L .one)
-
--- what is tested: the page, and room for the tables
+-- what is tested: the page that is made of zeros, and room for the tables
 abbrev right : Layout → Bool
-right L = sameBytes (made L) (pageBytes L) && leb (L .one) 4 && ltb (L .orr + 15 * L .one) 256 && ltb (L .xor + 15 * L .one) 256
+right L = sameBytes (paged L 0 (replicate 256 0)) (pageBytes L) && leb (L .one) 4 && ltb (L .orr + 15 * L .one) 256 && ltb (L .xor + 15 * L .one) 256
 
 tested : T (forLayouts right)
-unfolding allBelow copied entries pageBytes mapAt page entry code alu
+unfolding allBelow copied paged entries pageBytes mapAt page entry code alu
 tested = tt
 
 module _ (L : Layout) (K : Known L) where
-  found : T (sameBytes (made L) (pageBytes L)) × (L .one ≤ 4) × (L .orr + 15 * L .one < 256) × (L .xor + 15 * L .one < 256)
+  found : T (sameBytes (paged L 0 (replicate 256 0)) (pageBytes L)) × (L .one ≤ 4) × (L .orr + 15 * L .one < 256) × (L .xor + 15 * L .one < 256)
   found =
-      let a = sameBytes (made L) (pageBytes L) in
+      let a = sameBytes (paged L 0 (replicate 256 0)) (pageBytes L) in
       let b = leb (L .one) 4 in
       let c = ltb (L .orr + 15 * L .one) 256 in
       let d = ltb (L .xor + 15 * L .one) 256 in
@@ -99,26 +105,35 @@ module _ (L : Layout) (K : Known L) where
       let w1 = and-both a b (w2 .0) in
       (w1 .0, leb→le _ _ (w1 .1), ltb→lt _ _ (w2 .1), ltb→lt _ _ (w3 .1))
 
-  page-made : made L ≡ pageBytes L
-  page-made = same-bytes (made L) (pageBytes L) (is-true _ (found .0))
-
-  -- from the constant tables
-  pub page-of-tables : (and orr xor page : List ℕ) → and ≡ entries (L .spaced) And → orr ≡ entries (L .spaced) Orr → xor ≡ entries (L .spaced) Xor
-      → page ≡ copied L and orr xor (replicate 256 0) 16 → set (set page 240 (L .zero)) 241 (L .one) ≡ pageBytes L
-  page-of-tables and orr xor page ea eo ex e = rw (e, ea, eo, ex) page-made
+  pub page-made : paged L 0 (replicate 256 0) ≡ pageBytes L
+  page-made = same-bytes (paged L 0 (replicate 256 0)) (pageBytes L) (is-true _ (found .0))
 
   pub one-small : L .one ≤ 4
   one-small = found .1
 
   -- where an entry stands
-  pub entry-fits : (k : ℕ) → k < 16 → (L .one * k < 256) × (L .orr + L .one * k < 256) × (L .xor + L .one * k < 256)
-  entry-fits k h = let w : L .one * k ≤ L .one * 15 = mul-le-mul-left (L .one) (omega arith) in omega (arith, found .2, found .3)
+  pub entry-fits : (i : ℕ) → i < 16 → (L .one * i < 256) × (L .one * i + L .orr < 256) × (L .one * i + L .xor < 256)
+  entry-fits i h = let w : L .one * i ≤ L .one * 15 = mul-le-mul-left (L .one) (omega arith) in omega (arith, found .2, found .3)
+
+  -- so that it does in a store with room for the page
+  pub place-fits : (start n k i : ℕ) → start + 256 ≤ n → i ≡ reachedBy (L .spaced) k → k < 4
+      → (i < 16) × (L .one * i < 256) × (start + L .one * i < n) × (start + L .one * i + L .orr < n) × (start + L .one * i + L .xor < n)
+  place-fits start n k i h e g =
+      let b : i < 16 = rw e (reached-entry (L .spaced) k g) in
+      let w = entry-fits i b in
+      (b, w .0, omega arith, omega arith, omega arith)
+
+-- from the constant tables
+pub paged-tables : (L : Layout) (start : ℕ) (and orr xor l page : List ℕ) → and ≡ entries (L .spaced) And → orr ≡ entries (L .spaced) Orr → xor ≡ entries (L .spaced) Xor
+    → page ≡ copied L start and orr xor l 4 → set (set page (start + 240) (L .zero)) (start + 240 + 1) (L .one) ≡ paged L start l
+unfolding paged
+paged-tables L start and orr xor l page ea eo ex e = rw (e, ea, eo, ex)
 
 pub bytes-length : (L : Layout) → length (pageBytes L) ≡ 256
 unfolding pageBytes
 bytes-length L = mapAt-length (λ i x. page L i) 0 (replicate 256 0)
 
-pub page-byte : (L : Layout) (l : List ℕ) (i : ℕ) → l ≡ pageBytes L → i < 256 → getD l i 0 ≡ page L i
+page-byte : (L : Layout) (l : List ℕ) (i : ℕ) → l ≡ pageBytes L → i < 256 → getD l i 0 ≡ page L i
 unfolding pageBytes
 page-byte L l i e h = ap (λ (l : List ℕ). getD l i 0) e ∙ mapAt-getD (λ i x. page L i) 0 (replicate 256 0) i h ∙ ap (page L) (zero-add i)
 
@@ -126,6 +141,96 @@ page-byte L l i e h = ap (λ (l : List ℕ). getD l i 0) e ∙ mapAt-getD (λ i 
 pub page-fixed : (L : Layout) (l : List ℕ) (i : ℕ) → l ≡ pageBytes L → 288 ≤ i → i < stateSize → getD l (i - 288) 0 ≡ fixed L i
 unfolding fixed
 page-fixed L l i e h g = page-byte L l (i - 288) e (omega arith) ∙ sym (rw (le-ltb i 4 (omega arith)))
+
+-- ---- a page behind other bytes: these stay, and behind them the same is written
+
+drop-at : (n : ℕ) (l : List ℕ) (i j v : ℕ) → i ≡ n + j → drop n (set l i v) ≡ set (drop n l) j v
+drop-at n l i j v e = ap (λ (k : ℕ). drop n (set l k v)) e ∙ drop-set-add n l j v
+
+drop-three : (n : ℕ) (c d : List ℕ) (i j o x u v w : ℕ) → i ≡ n + j → drop n c ≡ d
+    → drop n (set (set (set c i u) (i + o) v) (i + x) w) ≡ set (set (set d j u) (j + o) v) (j + x) w
+drop-three n c d i j o x u v w e h =
+    rw (drop-at n (set (set c i u) (i + o) v) (i + x) (j + x) w (omega arith), drop-at n (set c i u) (i + o) (j + o) v (omega arith), drop-at n c i j u e, h)
+
+take-three : (n : ℕ) (c : List ℕ) (i o x u v w : ℕ) → n ≤ i → take n (set (set (set c i u) (i + o) v) (i + x) w) ≡ take n c
+take-three n c i o x u v w h =
+    take-set-le n (set (set c i u) (i + o) v) (i + x) w (omega arith) ∙ take-set-le n (set c i u) (i + o) v (omega arith) ∙ take-set-le n c i u h
+
+length-three : (c : List ℕ) (i j k u v w : ℕ) → length (set (set (set c i u) j v) k w) ≡ length c
+length-three c i j k u v w = length-set (set (set c i u) j v) k w ∙ length-set (set c i u) j v ∙ length-set c i u
+
+module _ (L : Layout) (and orr xor : List ℕ) where
+  drop-copied : (n : ℕ) (l : List ℕ) (k : ℕ) → drop n (copied L n and orr xor l k) ≡ copied L 0 and orr xor (drop n l) k
+  unfolding copied
+  drop-copied n l zero = refl
+  drop-copied n l (suc k) =
+      let i : ℕ = reachedBy (L .spaced) k in
+      drop-three n (copied L n and orr xor l k) (copied L 0 and orr xor (drop n l) k) (n + L .one * i) (0 + L .one * i) (L .orr) (L .xor)
+      (L .one * getD and i 0) (L .one * getD orr i 0) (L .one * getD xor i 0) (omega arith) (drop-copied n l k)
+
+  take-copied : (n : ℕ) (l : List ℕ) (k : ℕ) → take n (copied L n and orr xor l k) ≡ take n l
+  unfolding copied
+  take-copied n l zero = refl
+  take-copied n l (suc k) =
+      let i : ℕ = reachedBy (L .spaced) k in
+      take-three n (copied L n and orr xor l k) (n + L .one * i) (L .orr) (L .xor) (L .one * getD and i 0) (L .one * getD orr i 0) (L .one * getD xor i 0) (omega arith) ∙ take-copied n l k
+
+  copied-length : (n : ℕ) (l : List ℕ) (k : ℕ) → length (copied L n and orr xor l k) ≡ length l
+  unfolding copied
+  copied-length n l zero = refl
+  copied-length n l (suc k) =
+      let i : ℕ = reachedBy (L .spaced) k in
+      let at : ℕ = n + L .one * i in
+      length-three (copied L n and orr xor l k) at (at + L .orr) (at + L .xor) (L .one * getD and i 0) (L .one * getD orr i 0) (L .one * getD xor i 0) ∙ copied-length n l k
+
+-- the three tables in a page
+abbrev tables : Layout → ℕ → List ℕ → List ℕ
+tables L n l = copied L n (entries (L .spaced) And) (entries (L .spaced) Orr) (entries (L .spaced) Xor) l 4
+
+module _ (L : Layout) (n : ℕ) (l : List ℕ) where
+  drop-paged : drop n (paged L n l) ≡ paged L 0 (drop n l)
+  unfolding paged
+  drop-paged =
+      rw (
+        drop-at n (set (tables L n l) (n + 240) (L .zero)) (n + 240 + 1) (0 + 240 + 1) (L .one) (omega arith),
+        drop-at n (tables L n l) (n + 240) (0 + 240) (L .zero) (omega arith),
+        drop-copied L (entries (L .spaced) And) (entries (L .spaced) Orr) (entries (L .spaced) Xor) n l 4,
+      )
+
+  take-paged : take n (paged L n l) ≡ take n l
+  unfolding paged
+  take-paged =
+      take-set-le n (set (tables L n l) (n + 240) (L .zero)) (n + 240 + 1) (L .one) (omega arith) ∙ take-set-le n (tables L n l) (n + 240) (L .zero) (omega arith)
+      ∙ take-copied L (entries (L .spaced) And) (entries (L .spaced) Orr) (entries (L .spaced) Xor) n l 4
+
+  paged-length : length (paged L n l) ≡ length l
+  unfolding paged
+  paged-length =
+      length-set (set (tables L n l) (n + 240) (L .zero)) (n + 240 + 1) (L .one) ∙ length-set (tables L n l) (n + 240) (L .zero)
+      ∙ copied-length L (entries (L .spaced) And) (entries (L .spaced) Orr) (entries (L .spaced) Xor) n l 4
+
+-- the table page written behind the places of a state w, in a store that has 0 there
+pub with-page : (L : Layout) → Known L → (m w : List ℕ) → length m ≡ stateSize → length w ≡ stateSize → ((i : ℕ) → i < 288 → getD m i 0 ≡ getD w i 0)
+    → ((i : ℕ) → 288 ≤ i → i < stateSize → (getD m i 0 ≡ 0) × (getD w i 0 ≡ fixed L i)) → paged L 288 m ≡ w
+with-page L K m w hm hw low high =
+    ext-getD 0 (paged L 288 m) w (paged-length L 288 m ∙ hm ∙ sym hw)
+    (λ i h. below i 288 (λ g. before i g) (λ g. behind i g (omega (arith, paged-length L 288 m))))
+  where
+    before : (i : ℕ) → i < 288 → getD (paged L 288 m) i 0 ≡ getD w i 0
+    before i g = sym (getD-take 288 (paged L 288 m) i 0 g) ∙ ap (λ (l : List ℕ). getD l i 0) (take-paged L 288 m) ∙ getD-take 288 m i 0 g ∙ low i g
+
+    clear : drop 288 m ≡ replicate 256 0
+    clear =
+        ext-getD 0 (drop 288 m) (replicate 256 0) (omega (arith, length-drop 288 m, length-replicate {A = ℕ} 256 0))
+        (λ i h. getD-drop 288 m i 0 ∙ high (288 + i) (omega arith) (omega (arith, length-drop 288 m)) .0 ∙ sym (getD-replicate 256 i 0 0 (omega (arith, length-drop 288 m))))
+
+    behind : (i : ℕ) → 288 ≤ i → i < stateSize → getD (paged L 288 m) i 0 ≡ getD w i 0
+    behind i g h =
+        let e : 288 + (i - 288) ≡ i = omega arith in
+        ap (λ (j : ℕ). getD (paged L 288 m) j 0) (sym e) ∙ sym (getD-drop 288 (paged L 288 m) (i - 288) 0)
+        ∙ page-fixed L (drop 288 (paged L 288 m)) i (drop-paged L 288 m ∙ ap (paged L 0) clear ∙ page-made L K) g h ∙ sym (high i g h .1)
+
+-- ---- what may stand there
 
 other : (t u v : Bool) → t ≡ false → v ≡ cond t u v
 other t u v e = rw e

@@ -3,7 +3,7 @@
 use mathlib.Core.Bool.{Bool, true, cond, _&&_, _||_}
 use mathlib.Core.List.{List}
 use Prim.Native.Nat.{ℕ, zero, suc, _+_, _-_}
-use lib.Dec.{eqb, ltb}
+use lib.Dec.{eqb}
 use lib.ListN.{getD, set}
 use Rattle.model.specs.Places.{kind}
 use Rattle.model.specs.Images.{byKind}
@@ -26,16 +26,15 @@ unfoldable pub filled : (ℕ → ℕ) → ℕ → ℕ → List ℕ → List ℕ
 filled g i zero l = l
 filled g i (suc n) l = set (filled g i n l) (i + n) (g (i + n))
 
--- the byte of another list so many places before
-abbrev pub shifted : List ℕ → ℕ → ℕ → ℕ
-shifted from shift i = getD from (i - shift) 0
+-- the byte of another list
+abbrev pub kept : List ℕ → ℕ → ℕ
+kept from i = getD from i 0
 
 -- one of two bytes, by whether another list has the key there
 abbrev pub chosen : List ℕ → ℕ → ℕ → ℕ → ℕ → ℕ
 chosen from key x y i = cond (eqb (getD from i 0) key) x y
 
--- what stands at place i where another state has b: 0 in r0 to r3, then the page; b in public places; one of two bytes in sensitive ones, by
--- whether b is the key
-unfoldable pub placed : List ℕ → ℕ → ℕ → ℕ → ℕ → ℕ → ℕ
+-- what is written at place i where another state has b: b in public places; one of two bytes in sensitive ones, by whether b is the key; else 0
+unfoldable pub placed : ℕ → ℕ → ℕ → ℕ → ℕ → ℕ
 unfolding kind
-placed page key x y i b = byKind (kind i) (cond (ltb i 4) 0 (getD page (i - 288) 0)) b (cond (eqb b key) x y)
+placed key x y i b = byKind (kind i) 0 b (cond (eqb b key) x y)

@@ -10,11 +10,11 @@ ghost use Rattle.model.specs.declared.Opcode.{Opcode};
 ghost use Rattle.model.specs.Limits.{stateSize};
 ghost use Rattle.model.specs.Answers.{report, outcome};
 ghost use Rattle.model.specs.Layouts.{Known};
-ghost use Rattle.model.specs.Images.{mapAt, back as backOf};
+ghost use Rattle.model.specs.Images.{mapAt};
 ghost use Rattle.model.specs.Images.{bitRight, imageRight, every, imageIn, bitsIn, toImageOutcome, fromImageOutcome};
-ghost use Rattle.images.specs.Pages.{entries, Small, copied, pageBytes};
+ghost use Rattle.images.specs.Pages.{entries, Small, reachedBy, copied, paged, pageBytes};
 ghost use Rattle.images.specs.Moving.{movedIn, moveOutcome};
-ghost use Rattle.images.specs.Ranges.{either, onPage, between, shifted, chosen, filled, placed};
+ghost use Rattle.images.specs.Ranges.{either, onPage, between, kept, chosen, filled, placed};
 use model::Answer;
 use model::Layout;
 use model::STATE_SIZE;
@@ -33,8 +33,10 @@ const SPACED_ORR: [u8; TABLE] = [0, 0, 0, 1, 0, 0, 1, 0, 0, 1, 0, 0, 4, 0, 0, 0]
 
 const SPACED_XOR: [u8; TABLE] = [0, 0, 0, 4, 0, 0, 1, 0, 0, 1, 0, 0, 4, 0, 0, 0];
 
-// The entries of a table, and the cells of the table page.
+// The entries of a table, those that two codes reach, and the cells of the table page.
 const TABLE: usize = 16;
+
+const REACHED: usize = 4;
 
 const PAGE: usize = 256;
 
@@ -59,41 +61,62 @@ fn xor_table(spaced: bool) -> [u8; TABLE]
     if spaced { SPACED_XOR } else { XOR }
 }
 
-// Copies the three tables of position 0 into a page, each from where the layout has it: each entry scaled by the code of 1, and as far from
-// the next.
+// Which entries two codes of position 0 reach: four of a table, in their order.
+fn reached(spaced: bool, k: usize) -> usize
+    requires { ⌜ k < 4 ⌝ }
+    ensures { λ r. ⌜ r ≡ reachedBy spaced k ⌝ }
+{
+    if spaced {
+        3 + 3 * k
+    } else {
+        5 + k + 2 * (k / 2)
+    }
+}
+
+// Copies these entries of the three tables of position 0 to where the layout has them, from `start` on: each scaled by the code of 1, and as far
+// from the next. The twelve others of a table are 0, as the store is there.
 fn put_tables(
     layout: Layout,
     and: &[u8; TABLE],
     orr: &[u8; TABLE],
     xor: &[u8; TABLE],
-    page: &mut [u8; PAGE],
+    store: &mut [u8],
+    start: usize,
 )
-    requires { ⌜ Known layout × Small (now and) × Small (now orr) × Small (now xor) × (length (now page) ≡ 256) ⌝ }
-    ensures { λ r. ⌜ now (page .exit) ≡ copied layout (now (and .entry)) (now (orr .entry)) (now (xor .entry)) (now (page .entry)) 16 ⌝ }
+    requires { ⌜ Known layout × Small (now and) × Small (now orr) × Small (now xor) × (start + 256 ≤ length (now store)) ⌝ }
+    ensures { λ r. ⌜ now (store .exit) ≡ copied layout start (now (and .entry)) (now (orr .entry)) (now (xor .entry)) (now (store .entry)) 4 ⌝ }
 {
     let mut k = 0;
-    while k < TABLE {
-        let at = (layout.one as usize) * k;
-        page[at] = layout.one * and[k];
-        page[(layout.orr as usize) + at] = layout.one * orr[k];
-        page[(layout.xor as usize) + at] = layout.one * xor[k];
+    while k < REACHED {
+        let i = reached(layout.spaced, k);
+        let at = start + (layout.one as usize) * i;
+        store[at] = layout.one * and[i];
+        store[at + (layout.orr as usize)] = layout.one * orr[i];
+        store[at + (layout.xor as usize)] = layout.one * xor[i];
         k += 1;
     }
 }
 
-// The table page: the three tables, and the two codes by which a public bit is coded.
+// The table page, from `start` on, where the store is 0: the three tables, and the two codes by which a public bit is coded.
+fn put_page(layout: Layout, store: &mut [u8], start: usize)
+    requires { ⌜ Known layout × (start + 256 ≤ length (now store)) ⌝ }
+    ensures { λ r. ⌜ now (store .exit) ≡ paged layout start (now (store .entry)) ⌝ }
+{
+    let spaced = layout.spaced;
+    let and = and_table(spaced);
+    let orr = orr_table(spaced);
+    let xor = xor_table(spaced);
+    put_tables(layout, &and, &orr, &xor, store, start);
+    store[start + CODES] = layout.zero;
+    store[start + CODES + 1] = layout.one;
+}
+
 fn page_of(layout: Layout) -> [u8; PAGE]
     requires { ⌜ Known layout ⌝ }
     ensures { λ r. ⌜ r ≡ pageBytes layout ⌝ }
 {
     let mut page = [0u8; PAGE];
-    let spaced = layout.spaced;
-    let and = and_table(spaced);
-    let orr = orr_table(spaced);
-    let xor = xor_table(spaced);
-    put_tables(layout, &and, &orr, &xor, &mut page);
-    page[CODES] = layout.zero;
-    page[CODES + 1] = layout.one;
+    put_page(layout, &mut page, 0);
     page
 }
 
@@ -138,14 +161,14 @@ fn has_page(page: &[u8; PAGE], state: &[u8]) -> bool
     good
 }
 
-// Copies bytes to the places from `start` to `end`, from as many places before as `shift` says.
-fn copy_between(from: &[u8], shift: usize, into: &mut [u8], start: usize, end: usize)
-    requires { ⌜ (shift ≤ start) × (start ≤ end) × (end ≤ length (now into)) × (end ≤ shift + length (now from)) ⌝ }
-    ensures { λ r. ⌜ now (into .exit) ≡ filled (shifted (now (from .entry)) shift) start (end - start) (now (into .entry)) ⌝ }
+// Copies the bytes of the places from `start` to `end`.
+fn copy_between(from: &[u8], into: &mut [u8], start: usize, end: usize)
+    requires { ⌜ (start ≤ end) × (end ≤ length (now into)) × (end ≤ length (now from)) ⌝ }
+    ensures { λ r. ⌜ now (into .exit) ≡ filled (kept (now (from .entry))) start (end - start) (now (into .entry)) ⌝ }
 {
     let mut i = start;
     while i < end {
-        into[i] = from[i - shift];
+        into[i] = from[i];
         i += 1;
     }
 }
@@ -195,30 +218,17 @@ fn places_right(layout: Layout, page: &[u8; PAGE], image: &[u8]) -> bool
     zero & registers & cells & same
 }
 
-// Public places as they are, x or y in each sensitive place by whether the key stands there, the table page; r0 to r3 are 0.
-fn put_places(page: &[u8; PAGE], from: &[u8], into: &mut [u8], key: u8, x: u8, y: u8)
-    requires { ⌜ (length (now page) ≡ 256) × (length (now from) ≡ stateSize) × (length (now into) ≡ stateSize) ⌝ }
-    ensures { λ r. ⌜ now (into .exit) ≡ mapAt (placed (now (page .entry)) key x y) 0 (now (from .entry)) ⌝ }
+// Public places as they are, x or y in each sensitive place by whether the key stands there; r0 to r3 and the table page are 0.
+fn put_places(from: &[u8], into: &mut [u8], key: u8, x: u8, y: u8)
+    requires { ⌜ (length (now from) ≡ stateSize) × (length (now into) ≡ stateSize) ⌝ }
+    ensures { λ r. ⌜ now (into .exit) ≡ mapAt (placed key x y) 0 (now (from .entry)) ⌝ }
 {
     choose_between(from, into, 0, R4, 0, 0, 0);
-    copy_between(from, 0, into, R4, R16);
+    copy_between(from, into, R4, R16);
     choose_between(from, into, R16, CELLS, key, x, y);
-    copy_between(from, 0, into, CELLS, CELL_128);
+    copy_between(from, into, CELLS, CELL_128);
     choose_between(from, into, CELL_128, PAGE_START, key, x, y);
-    copy_between(page, PAGE_START, into, PAGE_START, STATE_SIZE);
-}
-
-// Public places as they are, the bit of each code; r0 to r3 and the table page are 0.
-fn put_back(layout: Layout, image: &[u8], bits: &mut [u8])
-    requires { ⌜ (length (now image) ≡ stateSize) × (length (now bits) ≡ stateSize) ⌝ }
-    ensures { λ r. ⌜ now (bits .exit) ≡ backOf layout (now (image .entry)) ⌝ }
-{
-    choose_between(image, bits, 0, R4, 0, 0, 0);
-    copy_between(image, 0, bits, R4, R16);
-    choose_between(image, bits, R16, CELLS, layout.one, 1, 0);
-    copy_between(image, 0, bits, CELLS, CELL_128);
-    choose_between(image, bits, CELL_128, PAGE_START, layout.one, 1, 0);
-    choose_between(image, bits, PAGE_START, STATE_SIZE, 0, 0, 0);
+    choose_between(from, into, PAGE_START, STATE_SIZE, 0, 0, 0);
 }
 
 // Whether both lent states have the size of a state.
@@ -240,8 +250,8 @@ fn make_image(layout: Layout, bits: &[u8], image: &mut [u8]) -> Answer
         };
     }
     if bits_right(bits) {
-        let page = page_of(layout);
-        put_places(&page, bits, image, 0, layout.zero, layout.one);
+        put_places(bits, image, 0, layout.zero, layout.one);
+        put_page(layout, image, PAGE_START);
         return Answer::Count(STATE_SIZE as u32);
     }
     Answer::Refused {
@@ -262,7 +272,7 @@ fn make_bits(layout: Layout, image: &[u8], bits: &mut [u8]) -> Answer
     }
     let page = page_of(layout);
     if places_right(layout, &page, image) {
-        put_back(layout, image, bits);
+        put_places(image, bits, layout.one, 1, 0);
         return Answer::Count(STATE_SIZE as u32);
     }
     Answer::Refused {
@@ -281,10 +291,10 @@ fn make_moved(old: Layout, new: Layout, from: &[u8], into: &mut [u8]) -> Answer
             line: 0,
         };
     }
-    let old_page = page_of(old);
-    if places_right(old, &old_page, from) {
-        let new_page = page_of(new);
-        put_places(&new_page, from, into, old.one, new.one, new.zero);
+    let page = page_of(old);
+    if places_right(old, &page, from) {
+        put_places(from, into, old.one, new.one, new.zero);
+        put_page(new, into, PAGE_START);
         return Answer::Count(STATE_SIZE as u32);
     }
     Answer::Refused {

@@ -3,23 +3,20 @@ use Prim.Native.Nat.{_≤_, _-_}
 use mathlib.Core.Path.{_≡_, refl}
 use lib.ListN.{length, length-set}
 use native.Mathlib.Omega.{arith}
-use Rattle.images.specs.Ranges.{shifted, filled}
+use Rattle.images.specs.Ranges.{kept, filled}
 use Rattle.images.proofs.Ranges.{filled-next, filled-none, filled-all}
 use borrow.Author.Needs.{needs}
 use Rattle.images.proofs.copy_between.Statement.{statement}
 use Rattle.images.proofs.copy_between.Tie as tie
 
 abbrev Inv-loop : tie.InvT-loop
-Inv-loop from shift into₀ start end i₀ into i = (start ≤ i) × (i ≤ end) × (length into ≡ length into₀) × (into ≡ filled (shifted from shift) start (i - start) into₀)
+Inv-loop from into₀ start end i₀ into i = (start ≤ i) × (i ≤ end) × (length into ≡ length into₀) × (into ≡ filled (kept from) start (i - start) into₀)
 
 abbrev μ-loop : tie.MeasureT-loop
-μ-loop from shift into₀ start end i₀ into i = end - i
+μ-loop from into₀ start end i₀ into i = end - i
 
 loop-holds : tie.Need-loop-holds Inv-loop μ-loop
-loop-holds c = (omega arith, c .pre .1, refl, filled-none _ _ _)
-
-sub-into : tie.Need-sub-into Inv-loop μ-loop
-sub-into c = search needs
+loop-holds c = (omega arith, c .pre .0, refl, filled-none _ _ _)
 
 shared-slice-read-into : tie.Need-shared-slice-read-into Inv-loop μ-loop
 shared-slice-read-into c = search needs
@@ -34,7 +31,7 @@ loop-less : tie.Need-loop-less Inv-loop μ-loop
 loop-less c = search needs
 
 loop-again : tie.Need-loop-again Inv-loop μ-loop
-loop-again c = (omega arith, omega arith, simp length-set (c .before .before .loop .inv .2), filled-next (shifted (c .before .before .before .args .from .now) (c .before .before .before .args .shift)) _ _ _ _ _ (c .before .before .loop .inv .0) (c .before .before .loop .inv .3) refl)
+loop-again c = (omega arith, omega arith, simp length-set (c .before .before .loop .inv .2), filled-next (kept (c .before .before .before .args .from .now)) _ _ _ _ _ (c .before .before .loop .inv .0) (c .before .before .loop .inv .3) refl)
 
 same-length : tie.Need-same-length Inv-loop μ-loop
 same-length c = search needs
@@ -49,7 +46,6 @@ copy-between-spec =
     Inv-loop
     μ-loop
     loop-holds
-    sub-into
     shared-slice-read-into
     slice-write-into
     add-i

@@ -1,5 +1,7 @@
 -- `images::make_bits` meets its contract. A return for each case of `carried`. Assumes nothing.
+use mathlib.Core.Path.{_∙_}
 use Rattle.model.specs.Images.{back, imageRight}
+use Rattle.images.proofs.Placed.{back-placed}
 use Rattle.images.proofs.Carrying.{both-long, other-size, turned-down, goes-over}
 use borrow.Author.Needs.{needs}
 use Rattle.images.proofs.make_bits.Statement.{statement}
@@ -20,8 +22,8 @@ page-of-requires c κs = search needs
 places-right-requires : tie.Need-places-right-requires
 places-right-requires c κs = let a = c .before .before .before .before .before .before .before .args in (c .before .page-of .ensures, both-long (a .image .now) (a .bits .now) _ (c .before .before .before .are-states .ensures) (c .before .before .if1 .left) .0)
 
-put-back-requires : tie.Need-put-back-requires
-put-back-requires c κs = let a = c .before .before .before .before .before .before .before .before .before .before .args in both-long (a .image .now) (a .bits .now) _ (c .before .before .before .before .before .before .are-states .ensures) (c .before .before .before .before .before .if1 .left)
+put-places-requires : tie.Need-put-places-requires
+put-places-requires c κs = let a = c .before .before .before .before .before .before .before .before .before .before .args in both-long (a .image .now) (a .bits .now) _ (c .before .before .before .before .before .before .are-states .ensures) (c .before .before .before .before .before .if1 .left)
 
 cast-t15 : tie.Need-cast-t15
 cast-t15 c = search needs
@@ -32,7 +34,8 @@ same-length-2 c = search needs
 returns-2 : tie.Need-returns-2
 returns-2 c =
     let a = c .before .before .before .before .before .before .before .before .before .before .before .before .before .args in
-    goes-over (a .image .now) (a .bits .now) _ (c .before .before .before .before .before .before .before .before .before .are-states .ensures) (imageRight (a .layout)) (back (a .layout)) (c .before .before .before .before .before .before .before .before .if1 .left) _ (c .before .before .before .before .before .places-right .ensures) _ (c .before .before .before .before .if2 .taken) (c .before .before .put-back .ensures)
+    goes-over (a .image .now) (a .bits .now) _ (c .before .before .before .before .before .before .before .before .before .are-states .ensures) (imageRight (a .layout)) (back (a .layout)) (c .before .before .before .before .before .before .before .before .if1 .left) _ (c .before .before .before .before .before .places-right .ensures) _ (c .before .before .before .before .if2 .taken)
+    (c .before .before .put-places .ensures ∙ back-placed (a .layout) (a .image .now))
 
 same-length-3 : tie.Need-same-length-3
 same-length-3 c = search needs
@@ -51,7 +54,7 @@ make-bits-spec =
     returns
     page-of-requires
     places-right-requires
-    put-back-requires
+    put-places-requires
     cast-t15
     same-length-2
     returns-2

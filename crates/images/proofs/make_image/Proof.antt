@@ -1,8 +1,8 @@
 -- `images::make_image` meets its contract. A return for each case of `carried`. Assumes nothing.
 use mathlib.Core.Path.{ap, _∙_}
-use lib.ListN.{length}
+use native.Mathlib.Omega.{arith}
 use Rattle.model.specs.Images.{image, bitRight}
-use Rattle.images.proofs.Tables.{bytes-length}
+use Rattle.images.specs.Pages.{paged}
 use Rattle.images.proofs.Placed.{image-placed}
 use Rattle.images.proofs.Carrying.{both-long, other-size, turned-down, goes-over}
 use borrow.Author.Needs.{needs}
@@ -21,29 +21,25 @@ returns c = let a = c .before .before .before .before .before .args in other-siz
 bits-right-requires : tie.Need-bits-right-requires
 bits-right-requires c κs = let a = c .before .before .before .before .before .args in both-long (a .bits .now) (a .image .now) _ (c .before .are-states .ensures) (c .if1 .left) .0
 
-page-of-requires : tie.Need-page-of-requires
-page-of-requires c κs = search needs
-
 put-places-requires : tie.Need-put-places-requires
-put-places-requires c κs =
-    let a = c .before .before .before .before .before .before .before .before .before .before .args in
-    let l = both-long (a .bits .now) (a .image .now) _ (c .before .before .before .before .before .before .are-states .ensures) (c .before .before .before .before .before .if1 .left) in
-    (ap length (c .before .before .page-of .ensures) ∙ bytes-length (a .layout), l .0, l .1)
+put-places-requires c κs = let a = c .before .before .before .before .before .before .before .before .args in both-long (a .bits .now) (a .image .now) _ (c .before .before .before .before .are-states .ensures) (c .before .before .before .if1 .left)
 
-cast-t15 : tie.Need-cast-t15
-cast-t15 c = search needs
+put-page-requires : tie.Need-put-page-requires
+put-page-requires c κs = let a = c .before .before .before .before .before .before .before .before .before .before .before .before .args in (c .before .before .before .before .before .before .before .before .before .before .before .before .pre, omega (arith, both-long (a .bits .now) (a .image .now) _ (c .before .before .before .before .before .before .before .before .are-states .ensures) (c .before .before .before .before .before .before .before .if1 .left) .1))
+
+cast-t14 : tie.Need-cast-t14
+cast-t14 c = search needs
 
 same-length-2 : tie.Need-same-length-2
 same-length-2 c = search needs
 
 returns-2 : tie.Need-returns-2
 returns-2 c =
-    let a = c .before .before .before .before .before .before .before .before .before .before .before .before .before .args in
-    let w = c .before .before .before .before .before .before .before .before .before .are-states .ensures in
-    let h = c .before .before .before .before .before .before .before .before .if1 .left in
-    let l = both-long (a .bits .now) (a .image .now) _ w h in
-    goes-over (a .bits .now) (a .image .now) _ w bitRight (image (a .layout)) h _ (c .before .before .before .before .before .before .before .bits-right .ensures) _ (c .before .before .before .before .before .before .if2 .taken)
-    (c .before .before .put-places .ensures ∙ image-placed (a .layout) _ (c .before .before .before .before .before .page-of .ensures) (a .bits .now) (l .0))
+    let a = c .before .before .before .before .before .before .before .before .before .before .before .before .before .before .before .args in
+    let w = c .before .before .before .before .before .before .before .before .before .before .before .are-states .ensures in
+    let h = c .before .before .before .before .before .before .before .before .before .before .if1 .left in
+    goes-over (a .bits .now) (a .image .now) _ w bitRight (image (a .layout)) h _ (c .before .before .before .before .before .before .before .before .before .bits-right .ensures) _ (c .before .before .before .before .before .before .before .before .if2 .taken)
+    (c .before .before .put-page .ensures ∙ ap (paged (a .layout) 288) (c .before .before .before .before .before .before .put-places .ensures) ∙ image-placed (a .layout) (c .before .before .before .before .before .before .before .before .before .before .before .before .before .before .before .pre) (a .bits .now) (both-long (a .bits .now) (a .image .now) _ w h .0))
 
 same-length-3 : tie.Need-same-length-3
 same-length-3 c = search needs
@@ -61,9 +57,9 @@ make-image-spec =
     same-length
     returns
     bits-right-requires
-    page-of-requires
     put-places-requires
-    cast-t15
+    put-page-requires
+    cast-t14
     same-length-2
     returns-2
     same-length-3

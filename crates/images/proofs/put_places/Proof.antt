@@ -19,16 +19,17 @@ copy-between-requires-2 c κs = search needs
 choose-between-requires-3 : tie.Need-choose-between-requires-3
 choose-between-requires-3 c κs = search needs
 
-copy-between-requires-3 : tie.Need-copy-between-requires-3
-copy-between-requires-3 c κs = search needs
+choose-between-requires-4 : tie.Need-choose-between-requires-4
+choose-between-requires-4 c κs = search needs
 
 same-length : tie.Need-same-length
 same-length c = search needs
 
 returns : tie.Need-returns
 returns c =
-    placed-by-range (c .before .before .before .before .before .before .before .before .before .before .before .before .before .before .before .before .before .before .before .before .before .before .before .before .before .before .before .args .page .now) (c .before .before .before .before .before .before .before .before .before .before .before .before .before .before .before .before .before .before .before .before .before .before .before .before .before .before .before .args .key) (c .before .before .before .before .before .before .before .before .before .before .before .before .before .before .before .before .before .before .before .before .before .before .before .before .before .before .before .args .x) (c .before .before .before .before .before .before .before .before .before .before .before .before .before .before .before .before .before .before .before .before .before .before .before .before .before .before .before .args .y) (c .before .before .before .before .before .before .before .before .before .before .before .before .before .before .before .before .before .before .before .before .before .before .before .before .before .before .before .args .from .now) (c .before .before .before .before .before .before .before .before .before .before .before .before .before .before .before .before .before .before .before .before .before .before .before .before .before .before .before .args .into .now) _ _ _ _ _ _ (c .before .before .before .before .before .before .before .before .before .before .before .before .before .before .before .before .before .before .before .before .before .before .before .before .before .before .before .pre .1) (c .before .before .before .before .before .before .before .before .before .before .before .before .before .before .before .before .before .before .before .before .before .before .before .before .before .before .before .pre .2)
-    (c .before .before .before .before .before .before .before .before .before .before .before .before .before .before .before .before .before .before .before .before .before .before .before .choose-between .ensures) (c .before .before .before .before .before .before .before .before .before .before .before .before .before .before .before .before .before .before .before .copy-between .ensures) (c .before .before .before .before .before .before .before .before .before .before .before .before .before .before .before .choose-between2 .ensures) (c .before .before .before .before .before .before .before .before .before .before .before .copy-between2 .ensures) (c .before .before .before .before .before .before .before .choose-between3 .ensures) (c .before .before .copy-between3 .ensures)
+    let a = c .before .before .before .before .before .before .before .before .before .before .before .before .before .before .before .before .before .before .before .before .before .before .before .before .before .before .args in
+    placed-by-range (a .key) (a .x) (a .y) (a .from .now) (a .into .now) _ _ _ _ _ _ (c .before .before .before .before .before .before .before .before .before .before .before .before .before .before .before .before .before .before .before .before .before .before .before .before .before .before .pre .0) (c .before .before .before .before .before .before .before .before .before .before .before .before .before .before .before .before .before .before .before .before .before .before .before .before .before .before .pre .1)
+    (c .before .before .before .before .before .before .before .before .before .before .before .before .before .before .before .before .before .before .before .before .before .before .choose-between .ensures) (c .before .before .before .before .before .before .before .before .before .before .before .before .before .before .before .before .before .before .copy-between .ensures) (c .before .before .before .before .before .before .before .before .before .before .before .before .before .before .choose-between2 .ensures) (c .before .before .before .before .before .before .before .before .before .before .copy-between2 .ensures) (c .before .before .before .before .before .before .choose-between3 .ensures) (c .before .before .choose-between4 .ensures)
 
 pub put-places-spec : {M : Type 1} → statement M
 put-places-spec =
@@ -39,6 +40,6 @@ put-places-spec =
     choose-between-requires-2
     copy-between-requires-2
     choose-between-requires-3
-    copy-between-requires-3
+    choose-between-requires-4
     same-length
     returns)
