@@ -1,21 +1,25 @@
 /* Moves a stored image in the middle of an encryption: `move POSITION SPACING < simon32.asm` encrypts the published example in neighbours at
- * position 0 up to round 16, moves the image to the layout named, goes on there, and prints the ciphertext. What is turned down prints
- * `refused,number,line`. */
+ * position 0 up to the middle of round 16, moves the image to the layout named, goes on there, and prints the ciphertext. What is turned
+ * down prints `refused,number,line`. */
 #include "dualrail.h"
 
 #include <stdio.h>
 #include <stdlib.h>
+#include <string.h>
 
-enum { LINES = 409, WIDTH = 6, LONGEST = 17, STATE = 544, ROW = 6, BUDGET = 65535 };
+enum { LINES = 409, WIDTH = 6, TARGET = 5, LONGEST = 17, STATE = 544, ROW = 6, BUDGET = 65535 };
 
-/* Where a round begins. No line before it is marked, so it is line 7 of every expansion too. */
-enum { ROUND = 7 };
-
-/* Places: r4 counts rounds, cell 128 is the first bit of the text, cell 192 the first of the key. */
-enum { R4 = 4, TEXT = 32 + 128, KEY = 32 + 192 };
+/* The source line of the move, between the marked lines of a round and those of its key; and places: r4 counts rounds, the text begins at
+ * cell 128, the key at cell 192. */
+enum { LINE = 27, R4 = 4, TEXT = 32 + 128, KEY = 32 + 192 };
 
 static uint8_t text[4096], bits[STATE], image[STATE], moved[STATE];
-static uint16_t program[WIDTH * LINES], expansion[LONGEST * WIDTH * LINES], trace[ROW * BUDGET];
+static uint16_t program[WIDTH * LINES], front[WIDTH * LINES], expansion[LONGEST * WIDTH * LINES], trace[ROW * BUDGET];
+
+static void fail(const char *why) {
+    puts(why);
+    exit(1);
+}
 
 static size_t count_of(uint64_t answer) {
     if (answer >> 32) {
@@ -41,16 +45,28 @@ static unsigned word_at(size_t place) {
     return word;
 }
 
-/* Step by step, so that it stops between two source lines. */
-static void run_to_round_16(size_t size) {
-    uint16_t line = 0;
-    for (unsigned steps = 0; line != ROUND || image[R4] != 16; steps++) {
-        if (steps == BUDGET) {
-            puts("no round 16");
-            exit(1);
-        }
+/* Where the line of the move starts in a layout's expansion: as many lines as the lines before it become. Their targets do not count; as some
+ * lie behind, all are set to line 0. */
+static uint16_t start_in(uint8_t position, uint8_t spacing) {
+    memcpy(front, program, sizeof front);
+    for (size_t i = TARGET; i < WIDTH * LINE; i += WIDTH) front[i] = front[i] != 0;
+    return count_of(dualrail_expand(position, spacing, front, WIDTH * LINE, expansion, LONGEST * WIDTH * LINES));
+}
+
+/* Step by step in neighbours at position 0, so that it stops between two source lines. */
+static void run_to_the_move(size_t lines) {
+    uint16_t stop = start_in(0, 0), line = 0;
+    size_t size = WIDTH * count_of(dualrail_expand(0, 0, program, lines, expansion, LONGEST * WIDTH * LINES));
+    for (unsigned steps = 0; line != stop || image[R4] != 16; steps++) {
+        if (steps == BUDGET) fail("no round 16");
         line = dualrail_run(expansion, size, line, 1, image, STATE, trace, ROW * BUDGET) >> 16;
     }
+}
+
+static void finish(uint8_t position, uint8_t spacing, size_t lines) {
+    uint16_t start = start_in(position, spacing);
+    size_t size = WIDTH * count_of(dualrail_expand(position, spacing, program, lines, expansion, LONGEST * WIDTH * LINES));
+    if (dualrail_run(expansion, size, start, BUDGET, moved, STATE, trace, ROW * BUDGET) >> 32) fail("no end");
 }
 
 int main(int count, char **words) {
@@ -61,14 +77,9 @@ int main(int count, char **words) {
     put_word(TEXT + 16, 0x6877);
     for (unsigned i = 0; i < 4; i++) put_word(KEY + 16 * i, 0x0100 + 0x0808 * i);
     count_of(dualrail_to_image(0, 0, bits, STATE, image, STATE));
-
-    size_t size = WIDTH * count_of(dualrail_expand(0, 0, program, lines, expansion, LONGEST * WIDTH * LINES));
-    run_to_round_16(size);
-
+    run_to_the_move(lines);
     count_of(dualrail_move_image(0, 0, position, spacing, image, STATE, moved, STATE));
-    size = WIDTH * count_of(dualrail_expand(position, spacing, program, lines, expansion, LONGEST * WIDTH * LINES));
-    dualrail_run(expansion, size, ROUND, BUDGET, moved, STATE, trace, ROW * BUDGET);
-
+    finish(position, spacing, lines);
     count_of(dualrail_from_image(position, spacing, moved, STATE, bits, STATE));
     printf("%04x %04x\n", word_at(TEXT), word_at(TEXT + 16));
 }

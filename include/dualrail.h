@@ -49,7 +49,8 @@ uint64_t dualrail_from_image(uint8_t position, uint8_t spacing, const uint8_t *i
                              size_t bits_length);
 
 /* Moves an image from its old layout to a new one, its own too, at a point between two source lines: public places stay, sensitive codes
- * and tables become the new layout's, r1 to r3 become 0; counts 544 bytes. Refusals 23 (of either layout), 18, 19 (by the old one). */
+ * and tables become the new layout's, r1 to r3 become 0; counts 544 bytes. A run goes on in the new layout's expansion, at the start that the
+ * source line has there (docs/LANGUAGE.md). Refusals 23 (of either layout), 18, 19 (by the old one). */
 uint64_t dualrail_move_image(uint8_t old_position, uint8_t old_spacing, uint8_t new_position, uint8_t new_spacing,
                              const uint8_t *from, size_t from_length, uint8_t *into, size_t into_length);
 

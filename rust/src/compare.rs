@@ -36,7 +36,7 @@ pub const WITH_LAYOUT: [Entry; 3] = [Entry::Expand, Entry::ToImage, Entry::FromI
 #[derive(Clone, Copy, Debug, PartialEq)]
 struct Small {
     layout: Layout,
-    /// The layout that an image moves to; the other one is its old.
+    /// The layout that an image moves to; the other one is its old one.
     new: Layout,
     start: u16,
     budget: u16,

@@ -26,7 +26,7 @@ fn library_against_paper() {
     let cases = from_environment("DUALRAIL_CASES").unwrap_or(CASES).max(CASES);
     let counts = compare(&Library, seed, 0, cases).unwrap_or_else(|report| panic!("{report}"));
     println!("seed {seed}: {}", counts.show());
-    assert!(counts.calls >= 200_000);
+    assert!(counts.calls >= 1_000_000);
     for (number, &count) in counts.refusals.iter().enumerate().skip(1) {
         match number {
             13 => assert_eq!(count, 0, "refusal 13 came"),

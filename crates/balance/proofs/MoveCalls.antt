@@ -11,7 +11,7 @@ use Rattle.model.specs.Answers.{Report, done, counted, Outcome, outcome}
 use Rattle.model.specs.Places.{State}
 use Rattle.model.specs.Stored.{lines}
 use Rattle.model.specs.Run.{Ran, run, runOutcome}
-use Rattle.model.specs.Images.{BitState, ButScratch, image, back, bitRight, imageRight, imageIn, bitsIn, toImageOutcome}
+use Rattle.model.specs.Images.{BitState, ButScratch, image, back, bitRight, imageRight, imageIn, bitsIn, toImageOutcome, fromImageOutcome}
 use Rattle.model.specs.Expansion.{start, expand}
 use Rattle.model.specs.Claims.{span}
 use Rattle.model.proofs.PlaceLaws.{image-length}
@@ -67,6 +67,15 @@ moved-by-bits op os np ns v w M lent other hl ho =
       backCall = inside op os (lent ∷ []) (λ L. bitsIn L v lent) (C .oldSix) ∙ carried-goes (imageRight old) (back old) v lent (C .stored .long) hl (C .stored .right);
       imageCall = image-goes op os np ns v w C other ho;
     }
+
+pub by-bits-claim : (op os np ns : ℕ) (v lent w lent′ bits other image : State) (a c d : Report) → outcome a (w ∷ []) ≡ moveOutcome op os np ns v lent
+    → outcome c (bits ∷ []) ≡ fromImageOutcome op os v lent′ → outcome d (image ∷ []) ≡ toImageOutcome np ns bits other
+    → a ≡ counted stateSize → length lent′ ≡ stateSize → length other ≡ stateSize → (c ≡ counted stateSize) × (d ≡ counted stateSize) × (image ≡ w)
+by-bits-claim op os np ns v lent w lent′ bits other image a c d e f g h hl ho =
+    let B = moved-by-bits op os np ns v w (record { lent = lent; call = sym e ∙ ap (λ (z : Report). outcome z (w ∷ [])) h }) lent′ other hl ho in
+    let back = f ∙ B .backCall in
+    let made = g ∙ ap (λ (s : State). toImageOutcome np ns s other) (ap first-store back) ∙ B .imageCall in
+    (ap (λ (o : Outcome). o .answer) back, ap (λ (o : Outcome). o .answer) made, ap first-store made)
 
 -- what a move answered, and a run from the state that it left
 pub answered : (a : Report) (w : State) (o : Outcome) → outcome a (w ∷ []) ≡ o → a ≡ o .answer
@@ -131,8 +140,7 @@ pub continued-claim : (op os np ns : ℕ) (q : List ℕ) (i b : ℕ) (v : State)
     (a1 a2 a3 a4 a5 : Report) (v1 w w1 u1 would1 : State) (x1 y1 z1 : List ℕ)
     → outcome a1 (v1 ∷ x1 ∷ []) ≡ runOutcome q i b v x → outcome a2 (w ∷ []) ≡ moveOutcome op os np ns v1 lent → outcome a3 (w1 ∷ y1 ∷ []) ≡ runOutcome r j d w y
     → outcome a4 (u1 ∷ z1 ∷ []) ≡ runOutcome q i c u z → outcome a5 (would1 ∷ []) ≡ moveOutcome op os np ns u1 would
-    → (C : Continuing op os np ns q i b v x lent r j d y c u z would)
-    → ContinuedCalls op os np ns (C .program) (run (lines (C .program)) (C .steps) (C .line) (C .bits) .at) (run (lines (C .program)) (C .steps + C .more) (C .line) (C .bits) .at) b d c a1 a2 a3 a4 a5 w1 would1
+    → (C : Continuing op os np ns q i b v x lent r j d y c u z would) → ContinuedCalls op os np ns (C .program) (C .moveLine) (C .endLine) b d c a1 a2 a3 a4 a5 w1 would1
 continued-claim op os np ns q i b v x lent r j d y c u z would a1 a2 a3 a4 a5 v1 w w1 u1 would1 x1 y1 z1 e1 e2 e3 e4 e5 C =
     let p = C .program in
     let s = C .bits in
@@ -145,24 +153,26 @@ continued-claim op os np ns q i b v x lent r j d y c u z would a1 a2 a3 a4 a5 v1
     let named : (m : ℕ) (t : State) (l : List ℕ) → t ≡ v → runOutcome q i m t l ≡ runOutcome (listing (C .written) (C .count)) (start old (lines p) (C .line)) m (image old s) l =
     λ m t l e. ap₂ (λ (f : List ℕ) (k : ℕ). runOutcome f k m t l) (C .isListing) (C .isStart) ∙ ap (λ (h : State). runOutcome (listing (C .written) (C .count)) (start old (lines p) (C .line)) m h l) (e ∙ A .1) in
     let one = old-calls op os np ns (M .six) p (C .written) (C .count) N s (A .0) (C .line) (C .steps) b (C .isSpan) x x1 lent v1 w a1 a2 (C .room) (C .long) (e1 ∙ named b v x refl) e2 in
-    let whole = old-calls op os np ns (M .six) p (C .written) (C .count) N s (A .0) (C .line) (C .steps + C .more) c (C .isWholeSpan) z z1 would u1 would1 a4 a5 (C .wholeRoom) (C .wholeLong) (e4 ∙ named c u z (C .isImage)) e5 in
+    let whole = old-calls op os np ns (M .six) p (C .written) (C .count) N s (A .0) (C .line) (C .steps + C .more) c (C .isWholeSpan) z z1 would u1 would1 a4 a5 (C .wholeRoom) (C .wholeLong) (e4 ∙ named c u z (C .sameImage)) e5 in
     let at : ℕ = run (lines p) (C .steps) (C .line) s .at in
     let g = expand new (lines p) in
     let n = newRun old new (lines p) (C .line) (C .steps) (C .more) s in
+    let first : j ≡ start new (lines p) at = C .isNewStart ∙ ap (start new (lines p)) (C .isMoveLine) in
+    let size : d ≡ span new (lines p) (C .more) at (run (lines p) (C .steps) (C .line) s .state) =
+    C .isNewSpan ∙ ap (λ (k : ℕ). span new (lines p) (C .more) k (run (lines p) (C .steps) (C .line) s .state)) (C .isMoveLine) in
     let long : length w ≡ stateSize = ap length (one .is ∙ F .image) ∙ image-length new (run (lines p) (C .steps) (C .line) s .state) ∙ correspondence old (N .known) (lines p) (N .accepted) (C .line) (C .steps) s (A .0) .bits .long in
-    let ran = e3 ∙ ap₂ (λ (f : List ℕ) (k : ℕ). runOutcome f k d w y) (C .isNewListing) (C .isNewStart)
-    ∙ listed-run np ns p (C .newWritten) (C .newCount) M (start new (lines p) at) d w y long (C .newRoom) in
-    let there : run g d (start new (lines p) at) w ≡ n = ap₂ (λ (m : ℕ) (h : State). run g m (start new (lines p) at) h) (C .isNewSpan) (one .is) in
+    let ran = e3 ∙ ap₂ (λ (f : List ℕ) (k : ℕ). runOutcome f k d w y) (C .isNewListing) first ∙ listed-run np ns p (C .newWritten) (C .newCount) M (start new (lines p) at) d w y long (C .newRoom) in
+    let there : run g d (start new (lines p) at) w ≡ n = ap₂ (λ (m : ℕ) (h : State). run g m (start new (lines p) at) h) size (one .is) in
     record {
       ending = one .ends;
       newEnding = ending g n;
       wholeEnding = whole .ends;
-      stood = one .answer;
+      stood = one .answer ∙ ap (λ (k : ℕ). done (one .ends ∷ start old (lines p) k ∷ b ∷ [])) (sym (C .isMoveLine));
       went = one .went;
       stands =
           ap (λ (o : Outcome). o .answer) ran ∙ ap (λ (h : Ran). done (ending g h ∷ h .at ∷ length (h .rows) ∷ [])) there
-          ∙ ap₂ (λ (l m : ℕ). done (ending g n ∷ l ∷ m ∷ [])) (F .stands) (F .steps ∙ sym (C .isNewSpan));
-      wouldStand = whole .answer;
+          ∙ ap₂ (λ (l m : ℕ). done (ending g n ∷ l ∷ m ∷ [])) (F .stands ∙ ap (start new (lines p)) (sym (C .isEndLine))) (F .steps ∙ sym size);
+      wouldStand = whole .answer ∙ ap (λ (k : ℕ). done (whole .ends ∷ start old (lines p) k ∷ c ∷ [])) (sym (C .isEndLine));
       wouldGo = whole .went;
       holds = subst₂ ButScratch (sym (ap first-store ran ∙ ap (λ (h : Ran). h .state) there)) (sym (whole .is)) (F .holds);
     }

@@ -51,49 +51,53 @@ MovedHome = (oldPosition oldSpacing newPosition newSpacing : ℕ) (v w : State) 
 
 -- ---- a run continued in the new layout
 
--- what a caller of `continue_run` has in hand: the listings q and r that `expand` wrote of one program in the two layouts; the image v of a
--- bit state in the old one, and u, which is the same; the start i of a source line there, and the lengths b of the parts of the lines done in
--- `steps` source steps, and c in `more` steps more; in the new one the start j of the line where the source then stands, and the lengths d
--- for the steps after it; and stores for all that is written
-pub record Continuing (oldPosition oldSpacing newPosition newSpacing : ℕ) (q : List ℕ) (i b : ℕ) (v : State) (x : List ℕ) (moved : State)
-    (r : List ℕ) (j d : ℕ) (y : List ℕ) (c : ℕ) (u : State) (z : List ℕ) (would : State) : Type 0 where
+-- what a caller of `continue_run` has in hand: the listings that `expand` wrote of one program in the two layouts; the image of a bit state in
+-- the old one, twice; the start of a source line there, and as budgets the lengths of the parts of the lines done in `steps` source steps, and in
+-- `more` steps more; in the new one the start of the line where the source stands at the move, and the lengths for the steps after it; and
+-- stores for all that is written
+pub record Continuing (oldPosition oldSpacing newPosition newSpacing : ℕ) (oldListing : List ℕ) (oldStart budget : ℕ) (oldImage : State) (trace : List ℕ) (moved : State)
+    (newListing : List ℕ) (newStart newBudget : ℕ) (newTrace : List ℕ) (wholeBudget : ℕ) (wholeImage : State) (wholeTrace : List ℕ) (wholeMoved : State) : Type 0 where
   pub program : List ℕ
   pub line : ℕ
   pub steps : ℕ
   pub more : ℕ
   pub bits : State
+  pub moveLine : ℕ
+  pub endLine : ℕ
   pub written : List ℕ
   pub count : ℕ
   pub newWritten : List ℕ
   pub newCount : ℕ
   pub expanded : Expanded oldPosition oldSpacing program written count
   pub newExpanded : Expanded newPosition newSpacing program newWritten newCount
-  pub imaged : Imaged oldPosition oldSpacing bits v
-  pub isImage : u ≡ v
-  pub isListing : q ≡ listing written count
-  pub isNewListing : r ≡ listing newWritten newCount
-  pub isStart : i ≡ start (layoutOf oldPosition oldSpacing) (lines program) line
-  pub isSpan : b ≡ span (layoutOf oldPosition oldSpacing) (lines program) steps line bits
-  pub isWholeSpan : c ≡ span (layoutOf oldPosition oldSpacing) (lines program) (steps + more) line bits
-  pub isNewStart : j ≡ start (layoutOf newPosition newSpacing) (lines program) (run (lines program) steps line bits .at)
-  pub isNewSpan : d ≡ span (layoutOf newPosition newSpacing) (lines program) more (run (lines program) steps line bits .at) (run (lines program) steps line bits .state)
-  pub room : rowWidth * b ≤ length x
-  pub newRoom : rowWidth * d ≤ length y
-  pub wholeRoom : rowWidth * c ≤ length z
+  pub imaged : Imaged oldPosition oldSpacing bits oldImage
+  pub sameImage : wholeImage ≡ oldImage
+  pub isListing : oldListing ≡ listing written count
+  pub isNewListing : newListing ≡ listing newWritten newCount
+  pub isMoveLine : moveLine ≡ run (lines program) steps line bits .at
+  pub isEndLine : endLine ≡ run (lines program) (steps + more) line bits .at
+  pub isStart : oldStart ≡ start (layoutOf oldPosition oldSpacing) (lines program) line
+  pub isNewStart : newStart ≡ start (layoutOf newPosition newSpacing) (lines program) moveLine
+  pub isSpan : budget ≡ span (layoutOf oldPosition oldSpacing) (lines program) steps line bits
+  pub isWholeSpan : wholeBudget ≡ span (layoutOf oldPosition oldSpacing) (lines program) (steps + more) line bits
+  pub isNewSpan : newBudget ≡ span (layoutOf newPosition newSpacing) (lines program) more moveLine (run (lines program) steps line bits .state)
+  pub room : rowWidth * budget ≤ length trace
+  pub newRoom : rowWidth * newBudget ≤ length newTrace
+  pub wholeRoom : rowWidth * wholeBudget ≤ length wholeTrace
   pub long : length moved ≡ stateSize
-  pub wholeLong : length would ≡ stateSize
+  pub wholeLong : length wholeMoved ≡ stateSize
 
--- with `at` the source line where the source stands at the move, and `end` the one where it stands after all its steps: the old run stands at
--- the start of the first and was moved; the new run stands at the start of the second, where the old run would stand; and its state is
--- the moved image of what the old run would have had, scratch excepted
-pub record ContinuedCalls (oldPosition oldSpacing newPosition newSpacing : ℕ) (p : List ℕ) (at end b d c : ℕ) (run moved newRun wholeRun wholeMoved : Report) (after would : State) : Type 0 where
+-- the old run stands at the start of the line of the move, and was moved; the new run stands at the start of the last line, where the old run would
+-- stand; and its state is the moved image of what the old run would have had, scratch excepted
+pub record ContinuedCalls (oldPosition oldSpacing newPosition newSpacing : ℕ) (program : List ℕ) (moveLine endLine budget newBudget wholeBudget : ℕ)
+    (run moved newRun wholeRun wholeMoved : Report) (after would : State) : Type 0 where
   pub ending : ℕ
   pub newEnding : ℕ
   pub wholeEnding : ℕ
-  pub stood : run ≡ done (ending ∷ start (layoutOf oldPosition oldSpacing) (lines p) at ∷ b ∷ [])
+  pub stood : run ≡ done (ending ∷ start (layoutOf oldPosition oldSpacing) (lines program) moveLine ∷ budget ∷ [])
   pub went : moved ≡ counted stateSize
-  pub stands : newRun ≡ done (newEnding ∷ start (layoutOf newPosition newSpacing) (lines p) end ∷ d ∷ [])
-  pub wouldStand : wholeRun ≡ done (wholeEnding ∷ start (layoutOf oldPosition oldSpacing) (lines p) end ∷ c ∷ [])
+  pub stands : newRun ≡ done (newEnding ∷ start (layoutOf newPosition newSpacing) (lines program) endLine ∷ newBudget ∷ [])
+  pub wouldStand : wholeRun ≡ done (wholeEnding ∷ start (layoutOf oldPosition oldSpacing) (lines program) endLine ∷ wholeBudget ∷ [])
   pub wouldGo : wholeMoved ≡ counted stateSize
   pub holds : ButScratch after would
 

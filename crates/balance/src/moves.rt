@@ -1,19 +1,58 @@
-// Request 06, said of the functions that run. specs/MoveClaims states its claims of the calls of `move_image`, `expand` and `run`,
-// proofs/MoveCalls proves them, and the functions here, which call these entry points, promise them.
+// Request 06, said of the functions that run. specs/MoveClaims states its claims of the calls of `move_image` and `run` on what `expand` and
+// `to_image` wrote, proofs/MoveCalls proves them, and the functions here, which make these calls, promise them.
 ghost use mathlib.Core.Path.{_≡_};
 ghost use mathlib.Core.List.{[], _∷_};
-ghost use Prim.Native.Nat.{_+_};
 ghost use lib.ListN.{length};
 ghost use Rattle.model.specs.Limits.{stateSize};
 ghost use Rattle.model.specs.Answers.{report, counted, outcome};
-ghost use Rattle.model.specs.Stored.{lines};
-ghost use Rattle.model.specs.Run.{run as runOf, runOutcome};
+ghost use Rattle.model.specs.Run.{runOutcome};
+ghost use Rattle.model.specs.Images.{toImageOutcome, fromImageOutcome};
 ghost use Rattle.images.specs.Moving.{moveOutcome};
 ghost use Rattle.images.specs.Claims.{Cleared};
 ghost use Rattle.balance.specs.EntryClaims.{SameCalls};
 ghost use Rattle.balance.specs.MoveClaims.{stateLeft, Continuing, ContinuedCalls, MovedTwin};
 use super::Twins;
 use model::Answer;
+
+pub struct ByBits {
+    pub moved: Answer,
+    pub bits: Answer,
+    pub image: Answer,
+}
+
+// Moves an image, and goes the way back in its layout and from there to the image in the new one. Where the move is not refused, and a state is
+// lent for the bits and for the image, neither are these, and the image is the moved one.
+pub fn move_by_bits(
+    old_position: u8,
+    old_spacing: u8,
+    new_position: u8,
+    new_spacing: u8,
+    from: &[u8],
+    moved: &mut [u8],
+    bits: &mut [u8],
+    image: &mut [u8],
+) -> ByBits
+    ensures { λ r. ⌜ outcome (report (r .moved)) (now (moved .exit) ∷ []) ≡ moveOutcome «old_position» «old_spacing» «new_position» «new_spacing» (now (from .entry)) (now (moved .entry)) ⌝ }
+    ensures { λ r. ⌜ outcome (report (r .bits)) (now (bits .exit) ∷ []) ≡ fromImageOutcome «old_position» «old_spacing» (now (from .entry)) (now (bits .entry)) ⌝ }
+    ensures { λ r. ⌜ outcome (report (r .image)) (now (image .exit) ∷ []) ≡ toImageOutcome «new_position» «new_spacing» (now (bits .exit)) (now (image .entry)) ⌝ }
+    ensures { λ r. ⌜ (report (r .moved) ≡ counted stateSize → length (now (bits .entry)) ≡ stateSize → length (now (image .entry)) ≡ stateSize → (report (r .bits) ≡ counted stateSize) × (report (r .image) ≡ counted stateSize) × (now (image .exit) ≡ now (moved .exit))) ⌝ }
+{
+    let at_once = images::move_image(
+        old_position,
+        old_spacing,
+        new_position,
+        new_spacing,
+        from,
+        moved,
+    );
+    let decoded = images::from_image(old_position, old_spacing, from, bits);
+    let coded = images::to_image(new_position, new_spacing, bits, image);
+    ByBits {
+        moved: at_once,
+        bits: decoded,
+        image: coded,
+    }
+}
 
 pub struct ThereAndBack {
     pub there: Answer,
@@ -93,9 +132,9 @@ pub struct ContinuedRun {
     pub whole: RanAndMoved,
 }
 
-// Runs a listing from an image, moves what it left, and goes on in another listing; beside it, runs the first listing on from the same image,
-// and moves what that left. On the listings that `expand` wrote of one program in the two layouts, over whole source lines, and from the same
-// source line where the move is, both have the same in the end, scratch excepted.
+// Runs a listing from an image, moves what it left, and goes on in another listing; beside it, runs the first listing once more from the same image,
+// as far as both together, and moves what that left. On the listings that `expand` wrote of one program in the two layouts, over whole source
+// lines, and from the same source line where the move is, both have the same in the end, scratch excepted.
 pub fn continue_run(
     old_position: u8,
     old_spacing: u8,
@@ -121,7 +160,7 @@ pub fn continue_run(
     ensures { λ r. ⌜ outcome (report (r .after)) (now (moved .exit) ∷ now («new_trace» .exit) ∷ []) ≡ runOutcome (now («new_listing» .entry)) «new_start» «new_budget» (stateLeft (moveOutcome «old_position» «old_spacing» «new_position» «new_spacing» (now (image .exit)) (now (moved .entry)))) (now («new_trace» .entry)) ⌝ }
     ensures { λ r. ⌜ outcome (report (r .whole .run)) (now («whole_image» .exit) ∷ now («whole_trace» .exit) ∷ []) ≡ runOutcome (now (listing .entry)) start «whole_budget» (now («whole_image» .entry)) (now («whole_trace» .entry)) ⌝ }
     ensures { λ r. ⌜ outcome (report (r .whole .moved)) (now («whole_moved» .exit) ∷ []) ≡ moveOutcome «old_position» «old_spacing» «new_position» «new_spacing» (now («whole_image» .exit)) (now («whole_moved» .entry)) ⌝ }
-    ensures { λ r. ⌜ ((C : Continuing «old_position» «old_spacing» «new_position» «new_spacing» (now (listing .entry)) start budget (now (image .entry)) (now (trace .entry)) (now (moved .entry)) (now («new_listing» .entry)) «new_start» «new_budget» (now («new_trace» .entry)) «whole_budget» (now («whole_image» .entry)) (now («whole_trace» .entry)) (now («whole_moved» .entry))) → ContinuedCalls «old_position» «old_spacing» «new_position» «new_spacing» (C .program) (runOf (lines (C .program)) (C .steps) (C .line) (C .bits) .at) (runOf (lines (C .program)) (C .steps + C .more) (C .line) (C .bits) .at) budget «new_budget» «whole_budget» (report (r .before .run)) (report (r .before .moved)) (report (r .after)) (report (r .whole .run)) (report (r .whole .moved)) (now (moved .exit)) (now («whole_moved» .exit))) ⌝ }
+    ensures { λ r. ⌜ ((C : Continuing «old_position» «old_spacing» «new_position» «new_spacing» (now (listing .entry)) start budget (now (image .entry)) (now (trace .entry)) (now (moved .entry)) (now («new_listing» .entry)) «new_start» «new_budget» (now («new_trace» .entry)) «whole_budget» (now («whole_image» .entry)) (now («whole_trace» .entry)) (now («whole_moved» .entry))) → ContinuedCalls «old_position» «old_spacing» «new_position» «new_spacing» (C .program) (C .moveLine) (C .endLine) budget «new_budget» «whole_budget» (report (r .before .run)) (report (r .before .moved)) (report (r .after)) (report (r .whole .run)) (report (r .whole .moved)) (now (moved .exit)) (now («whole_moved» .exit))) ⌝ }
 {
     let before = run_and_move(
         old_position,

@@ -114,7 +114,7 @@ pub(super) fn least(n: usize, most: usize) -> usize
     if n <= most { n } else { most }
 }
 
-// Number n of the two that stand behind the name of a call, its layout; 0 where there is none.
+// Number n of those that stand behind the name of a call: two for its layout, of a move four; 0 where there is none.
 pub(super) fn layout(line: &[u8], n: usize) -> u8 {
     least(decimal(part(field(line, CALL), n, b' ')), 255) as u8
 }

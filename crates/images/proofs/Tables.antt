@@ -24,7 +24,7 @@ use Rattle.model.proofs.TestLaws.{is-true, and-both, allBelow, all-below, below
 use Rattle.model.proofs.SpellingLaws.{same-bytes}
 use Rattle.model.proofs.Finite.{tableOp, forLayouts, for-layouts}
 use Rattle.model.proofs.PlaceLaws.{mapAt-length, mapAt-getD}
-use Rattle.images.specs.Pages.{entries, Small, reachedBy, copied, paged, pageBytes}
+use Rattle.images.specs.Pages.{entries, Small, entered, copied, paged, pageBytes}
 
 -- ---- a table's entries are small, so that none overflows when it is scaled
 
@@ -62,48 +62,37 @@ scaled-small u x h g = mul-le-mul {n₂ = 4} {m₂ = 4} h g
 
 -- ---- copying
 
--- of 16 entries
-pub reached-entry : (spaced : Bool) (k : ℕ) → k < 4 → reachedBy spaced k < 16
-unfolding reachedBy
-reached-entry true k h = omega arith
-reached-entry false zero h = omega arith
-reached-entry false (suc zero) h = omega arith
-reached-entry false (suc (suc zero)) h = omega arith
-reached-entry false (suc (suc (suc zero))) h = omega arith
-reached-entry false (suc (suc (suc (suc k)))) h = absurd (omega arith)
-
 module _ (L : Layout) (start : ℕ) (and orr xor : List ℕ) where
   -- one more entry of each
-  pub copied-next : (old new : List ℕ) (k i : ℕ) → i ≡ reachedBy (L .spaced) k → new ≡ copied L start and orr xor old k
-      → set (set (set new (start + L .one * i) (L .one * getD and i 0)) (start + L .one * i + L .orr) (L .one * getD orr i 0)) (start + L .one * i + L .xor) (L .one * getD xor i 0)
-      ≡ copied L start and orr xor old (k + 1)
+  pub copied-next : (old before new : List ℕ) (k : ℕ) → before ≡ copied L start and orr xor old k
+      → new ≡ entered L (getD and k 0) (getD orr k 0) (getD xor k 0) (start + L .one * k) before → new ≡ copied L start and orr xor old (k + 1)
   unfolding copied
-  copied-next old new k i q e = rw (add-one k, q, e)
+  copied-next old before new k e f = rw (add-one k, f, e)
 
-  pub copied-all : (old new : List ℕ) (k : ℕ) → k ≤ 4 → 4 ≤ k → new ≡ copied L start and orr xor old k → new ≡ copied L start and orr xor old 4
-  copied-all old new k h g e = let q : k ≡ 4 = omega arith in e ∙ ap (copied L start and orr xor old) q
+  pub copied-all : (old new : List ℕ) (k : ℕ) → k ≤ 16 → 16 ≤ k → new ≡ copied L start and orr xor old k → new ≡ copied L start and orr xor old 16
+  copied-all old new k h g e = let q : k ≡ 16 = omega arith in e ∙ ap (copied L start and orr xor old) q
 
 -- ---- the page
 
 -- what is tested: the page that is made of zeros, and room for the tables
 abbrev right : Layout → Bool
-right L = sameBytes (paged L 0 (replicate 256 0)) (pageBytes L) && leb (L .one) 4 && ltb (L .orr + 15 * L .one) 256 && ltb (L .xor + 15 * L .one) 256
+right L = sameBytes (paged L 0 (replicate 256 0)) (pageBytes L) && leb (L .one) 4 && ltb (L .xor + 15 * L .one) 256 && leb (L .orr) (L .xor)
 
 tested : T (forLayouts right)
-unfolding allBelow copied paged entries pageBytes mapAt page entry code alu
+unfolding allBelow entered copied paged entries pageBytes mapAt page entry code alu
 tested = tt
 
 module _ (L : Layout) (K : Known L) where
-  found : T (sameBytes (paged L 0 (replicate 256 0)) (pageBytes L)) × (L .one ≤ 4) × (L .orr + 15 * L .one < 256) × (L .xor + 15 * L .one < 256)
+  found : T (sameBytes (paged L 0 (replicate 256 0)) (pageBytes L)) × (L .one ≤ 4) × (L .xor + 15 * L .one < 256) × (L .orr ≤ L .xor)
   found =
       let a = sameBytes (paged L 0 (replicate 256 0)) (pageBytes L) in
       let b = leb (L .one) 4 in
-      let c = ltb (L .orr + 15 * L .one) 256 in
-      let d = ltb (L .xor + 15 * L .one) 256 in
+      let c = ltb (L .xor + 15 * L .one) 256 in
+      let d = leb (L .orr) (L .xor) in
       let w3 = and-both (a && b && c) d (for-layouts right tested K) in
       let w2 = and-both (a && b) c (w3 .0) in
       let w1 = and-both a b (w2 .0) in
-      (w1 .0, leb→le _ _ (w1 .1), ltb→lt _ _ (w2 .1), ltb→lt _ _ (w3 .1))
+      (w1 .0, leb→le _ _ (w1 .1), ltb→lt _ _ (w2 .1), leb→le _ _ (w3 .1))
 
   pub page-made : paged L 0 (replicate 256 0) ≡ pageBytes L
   page-made = same-bytes (paged L 0 (replicate 256 0)) (pageBytes L) (is-true _ (found .0))
@@ -112,22 +101,25 @@ module _ (L : Layout) (K : Known L) where
   one-small = found .1
 
   -- where an entry stands
-  pub entry-fits : (i : ℕ) → i < 16 → (L .one * i < 256) × (L .one * i + L .orr < 256) × (L .one * i + L .xor < 256)
-  entry-fits i h = let w : L .one * i ≤ L .one * 15 = mul-le-mul-left (L .one) (omega arith) in omega (arith, found .2, found .3)
+  entry-fits : (k : ℕ) → k < 16 → L .one * k + L .xor < 256
+  entry-fits k h = let w : L .one * k ≤ L .one * 15 = mul-le-mul-left (L .one) (omega arith) in omega (arith, found .2)
 
-  -- so that it does in a store with room for the page
-  pub place-fits : (start n k i : ℕ) → start + 256 ≤ n → i ≡ reachedBy (L .spaced) k → k < 4
-      → (i < 16) × (L .one * i < 256) × (start + L .one * i < n) × (start + L .one * i + L .orr < n) × (start + L .one * i + L .xor < n)
-  place-fits start n k i h e g =
-      let b : i < 16 = rw e (reached-entry (L .spaced) k g) in
-      let w = entry-fits i b in
-      (b, w .0, omega arith, omega arith, omega arith)
+  -- the table of xor is the last
+  pub orr-first : L .orr ≤ L .xor
+  orr-first = found .3
+
+  -- so that it stands in a store with room for the page
+  pub place-fits : (start n k : ℕ) → start + 256 ≤ n → k < 16 → (L .one * k < 256) × (start + L .one * k + L .xor < n)
+  place-fits start n k h g = let w = entry-fits k g in (omega arith, omega arith)
 
 -- from the constant tables
 pub paged-tables : (L : Layout) (start : ℕ) (and orr xor l page : List ℕ) → and ≡ entries (L .spaced) And → orr ≡ entries (L .spaced) Orr → xor ≡ entries (L .spaced) Xor
-    → page ≡ copied L start and orr xor l 4 → set (set page (start + 240) (L .zero)) (start + 240 + 1) (L .one) ≡ paged L start l
+    → page ≡ copied L start and orr xor l 16 → set (set page (start + 240) (L .zero)) (start + 240 + 1) (L .one) ≡ paged L start l
 unfolding paged
-paged-tables L start and orr xor l page ea eo ex e = rw (e, ea, eo, ex)
+paged-tables L start and orr xor l page ea eo ex e =
+    ap (λ (r : List ℕ). set (set r (start + 240) (L .zero)) (start + 240 + 1) (L .one))
+    (e ∙ ap (λ (a : List ℕ). copied L start a orr xor l 16) ea ∙ ap (λ (o : List ℕ). copied L start (entries (L .spaced) And) o xor l 16) eo
+    ∙ ap (λ (x : List ℕ). copied L start (entries (L .spaced) And) (entries (L .spaced) Orr) x l 16) ex)
 
 pub bytes-length : (L : Layout) → length (pageBytes L) ≡ 256
 unfolding pageBytes
@@ -147,45 +139,63 @@ page-fixed L l i e h g = page-byte L l (i - 288) e (omega arith) ∙ sym (rw (le
 drop-at : (n : ℕ) (l : List ℕ) (i j v : ℕ) → i ≡ n + j → drop n (set l i v) ≡ set (drop n l) j v
 drop-at n l i j v e = ap (λ (k : ℕ). drop n (set l k v)) e ∙ drop-set-add n l j v
 
-drop-three : (n : ℕ) (c d : List ℕ) (i j o x u v w : ℕ) → i ≡ n + j → drop n c ≡ d
-    → drop n (set (set (set c i u) (i + o) v) (i + x) w) ≡ set (set (set d j u) (j + o) v) (j + x) w
-drop-three n c d i j o x u v w e h =
-    rw (drop-at n (set (set c i u) (i + o) v) (i + x) (j + x) w (omega arith), drop-at n (set c i u) (i + o) (j + o) v (omega arith), drop-at n c i j u e, h)
+module _ (L : Layout) (a o x : ℕ) where
+  drop-entered : (n : ℕ) (c d : List ℕ) (i j : ℕ) → i ≡ n + j → drop n c ≡ d → drop n (entered L a o x i c) ≡ entered L a o x j d
+  unfolding entered
+  drop-entered n c d i j e h = go (eqb a 0)
+    where
+      go : (t : Bool) → drop n (cond t c (set (set (set c i (L .one * a)) (i + L .orr) (L .one * o)) (i + L .xor) (L .one * x)))
+          ≡ cond t d (set (set (set d j (L .one * a)) (j + L .orr) (L .one * o)) (j + L .xor) (L .one * x))
+      go true = h
+      go false =
+          rw (
+            drop-at n (set (set c i (L .one * a)) (i + L .orr) (L .one * o)) (i + L .xor) (j + L .xor) (L .one * x) (omega arith),
+            drop-at n (set c i (L .one * a)) (i + L .orr) (j + L .orr) (L .one * o) (omega arith),
+            drop-at n c i j (L .one * a) e,
+            h,
+          )
 
-take-three : (n : ℕ) (c : List ℕ) (i o x u v w : ℕ) → n ≤ i → take n (set (set (set c i u) (i + o) v) (i + x) w) ≡ take n c
-take-three n c i o x u v w h =
-    take-set-le n (set (set c i u) (i + o) v) (i + x) w (omega arith) ∙ take-set-le n (set c i u) (i + o) v (omega arith) ∙ take-set-le n c i u h
+  take-entered : (n : ℕ) (c : List ℕ) (i : ℕ) → n ≤ i → take n (entered L a o x i c) ≡ take n c
+  unfolding entered
+  take-entered n c i h = go (eqb a 0)
+    where
+      go : (t : Bool) → take n (cond t c (set (set (set c i (L .one * a)) (i + L .orr) (L .one * o)) (i + L .xor) (L .one * x))) ≡ take n c
+      go true = refl
+      go false =
+          take-set-le n (set (set c i (L .one * a)) (i + L .orr) (L .one * o)) (i + L .xor) (L .one * x) (omega arith)
+          ∙ take-set-le n (set c i (L .one * a)) (i + L .orr) (L .one * o) (omega arith) ∙ take-set-le n c i (L .one * a) h
 
-length-three : (c : List ℕ) (i j k u v w : ℕ) → length (set (set (set c i u) j v) k w) ≡ length c
-length-three c i j k u v w = length-set (set (set c i u) j v) k w ∙ length-set (set c i u) j v ∙ length-set c i u
+  pub entered-length : (c : List ℕ) (i : ℕ) → length (entered L a o x i c) ≡ length c
+  unfolding entered
+  entered-length c i = go (eqb a 0)
+    where
+      go : (t : Bool) → length (cond t c (set (set (set c i (L .one * a)) (i + L .orr) (L .one * o)) (i + L .xor) (L .one * x))) ≡ length c
+      go true = refl
+      go false =
+          length-set (set (set c i (L .one * a)) (i + L .orr) (L .one * o)) (i + L .xor) (L .one * x)
+          ∙ length-set (set c i (L .one * a)) (i + L .orr) (L .one * o) ∙ length-set c i (L .one * a)
 
 module _ (L : Layout) (and orr xor : List ℕ) where
   drop-copied : (n : ℕ) (l : List ℕ) (k : ℕ) → drop n (copied L n and orr xor l k) ≡ copied L 0 and orr xor (drop n l) k
   unfolding copied
   drop-copied n l zero = refl
   drop-copied n l (suc k) =
-      let i : ℕ = reachedBy (L .spaced) k in
-      drop-three n (copied L n and orr xor l k) (copied L 0 and orr xor (drop n l) k) (n + L .one * i) (0 + L .one * i) (L .orr) (L .xor)
-      (L .one * getD and i 0) (L .one * getD orr i 0) (L .one * getD xor i 0) (omega arith) (drop-copied n l k)
+      drop-entered L (getD and k 0) (getD orr k 0) (getD xor k 0) n (copied L n and orr xor l k) (copied L 0 and orr xor (drop n l) k) (n + L .one * k) (0 + L .one * k) (omega arith)
+      (drop-copied n l k)
 
   take-copied : (n : ℕ) (l : List ℕ) (k : ℕ) → take n (copied L n and orr xor l k) ≡ take n l
   unfolding copied
   take-copied n l zero = refl
-  take-copied n l (suc k) =
-      let i : ℕ = reachedBy (L .spaced) k in
-      take-three n (copied L n and orr xor l k) (n + L .one * i) (L .orr) (L .xor) (L .one * getD and i 0) (L .one * getD orr i 0) (L .one * getD xor i 0) (omega arith) ∙ take-copied n l k
+  take-copied n l (suc k) = take-entered L (getD and k 0) (getD orr k 0) (getD xor k 0) n (copied L n and orr xor l k) (n + L .one * k) (omega arith) ∙ take-copied n l k
 
   copied-length : (n : ℕ) (l : List ℕ) (k : ℕ) → length (copied L n and orr xor l k) ≡ length l
   unfolding copied
   copied-length n l zero = refl
-  copied-length n l (suc k) =
-      let i : ℕ = reachedBy (L .spaced) k in
-      let at : ℕ = n + L .one * i in
-      length-three (copied L n and orr xor l k) at (at + L .orr) (at + L .xor) (L .one * getD and i 0) (L .one * getD orr i 0) (L .one * getD xor i 0) ∙ copied-length n l k
+  copied-length n l (suc k) = entered-length L (getD and k 0) (getD orr k 0) (getD xor k 0) (copied L n and orr xor l k) (n + L .one * k) ∙ copied-length n l k
 
 -- the three tables in a page
 abbrev tables : Layout → ℕ → List ℕ → List ℕ
-tables L n l = copied L n (entries (L .spaced) And) (entries (L .spaced) Orr) (entries (L .spaced) Xor) l 4
+tables L n l = copied L n (entries (L .spaced) And) (entries (L .spaced) Orr) (entries (L .spaced) Xor) l 16
 
 module _ (L : Layout) (n : ℕ) (l : List ℕ) where
   drop-paged : drop n (paged L n l) ≡ paged L 0 (drop n l)
@@ -194,20 +204,20 @@ module _ (L : Layout) (n : ℕ) (l : List ℕ) where
       rw (
         drop-at n (set (tables L n l) (n + 240) (L .zero)) (n + 240 + 1) (0 + 240 + 1) (L .one) (omega arith),
         drop-at n (tables L n l) (n + 240) (0 + 240) (L .zero) (omega arith),
-        drop-copied L (entries (L .spaced) And) (entries (L .spaced) Orr) (entries (L .spaced) Xor) n l 4,
+        drop-copied L (entries (L .spaced) And) (entries (L .spaced) Orr) (entries (L .spaced) Xor) n l 16,
       )
 
   take-paged : take n (paged L n l) ≡ take n l
   unfolding paged
   take-paged =
       take-set-le n (set (tables L n l) (n + 240) (L .zero)) (n + 240 + 1) (L .one) (omega arith) ∙ take-set-le n (tables L n l) (n + 240) (L .zero) (omega arith)
-      ∙ take-copied L (entries (L .spaced) And) (entries (L .spaced) Orr) (entries (L .spaced) Xor) n l 4
+      ∙ take-copied L (entries (L .spaced) And) (entries (L .spaced) Orr) (entries (L .spaced) Xor) n l 16
 
   paged-length : length (paged L n l) ≡ length l
   unfolding paged
   paged-length =
       length-set (set (tables L n l) (n + 240) (L .zero)) (n + 240 + 1) (L .one) ∙ length-set (tables L n l) (n + 240) (L .zero)
-      ∙ copied-length L (entries (L .spaced) And) (entries (L .spaced) Orr) (entries (L .spaced) Xor) n l 4
+      ∙ copied-length L (entries (L .spaced) And) (entries (L .spaced) Orr) (entries (L .spaced) Xor) n l 16
 
 -- the table page written behind the places of a state w, in a store that has 0 there
 pub with-page : (L : Layout) → Known L → (m w : List ℕ) → length m ≡ stateSize → length w ≡ stateSize → ((i : ℕ) → i < 288 → getD m i 0 ≡ getD w i 0)

@@ -1,9 +1,10 @@
--- The table page of an image, as it is made: the constant tables are those of position 0, and each entry of them that two codes reach is scaled
--- and placed by the layout; the others are 0, as the store is there. Assumes nothing.
+-- The table page of an image, as it is made: the constant tables are those of position 0, and each entry of them is scaled and placed by the
+-- layout. Assumes nothing.
 use mathlib.Core.Path.{_≡_}
 use mathlib.Core.Bool.{Bool, cond}
 use mathlib.Core.List.{List}
-use Prim.Native.Nat.{ℕ, zero, suc, _+_, _*_, _/_, _≤_}
+use Prim.Native.Nat.{ℕ, zero, suc, _+_, _*_, _≤_}
+use lib.Dec.{eqb}
 use lib.ListN.{length, getD, replicate, set}
 use Rattle.model.specs.declared.Layout.{Layout}
 use Rattle.model.specs.declared.Opcode.{Opcode}
@@ -21,24 +22,22 @@ entries spaced op = mapAt (λ i x. entry (layoutOf 0 (cond spaced 1 0)) op i) 0 
 abbrev pub Small : List ℕ → Type 0
 Small table = (length table ≡ 16) × ((k : ℕ) → getD table k 0 ≤ 4)
 
--- the entries that two codes of position 0 reach, of the bits 1 and 1, 1 and 0, 0 and 1, 0 and 0
-unfoldable pub reachedBy : Bool → ℕ → ℕ
-reachedBy spaced k = cond spaced (3 + 3 * k) (5 + k + 2 * (k / 2))
+-- an entry of each of the three tables written, times the code of 1, that of the first to a place and the others where their tables are; nothing
+-- where that of the first is 0
+unfoldable pub entered : Layout → ℕ → ℕ → ℕ → ℕ → List ℕ → List ℕ
+entered L and orr xor at l = cond (eqb and 0) l (set (set (set l at (L .one * and)) (at + L .orr) (L .one * orr)) (at + L .xor) (L .one * xor))
 
--- k of these of each of the three tables copied to a page that begins at `start`, each to its place in the layout and times the code of 1
+-- the first k entries of the three tables copied to a page that begins at `start`, each to its place in the layout
 unfoldable pub copied : Layout → ℕ → List ℕ → List ℕ → List ℕ → List ℕ → ℕ → List ℕ
-unfolding reachedBy
+unfolding entered
 copied L start and orr xor l zero = l
-copied L start and orr xor l (suc k) =
-    let i = reachedBy (L .spaced) k in
-    let at = start + L .one * i in
-    set (set (set (copied L start and orr xor l k) at (L .one * getD and i 0)) (at + L .orr) (L .one * getD orr i 0)) (at + L .xor) (L .one * getD xor i 0)
+copied L start and orr xor l (suc k) = entered L (getD and k 0) (getD orr k 0) (getD xor k 0) (start + L .one * k) (copied L start and orr xor l k)
 
 -- and the two codes
 unfoldable pub paged : Layout → ℕ → List ℕ → List ℕ
 unfolding entries copied
 paged L start l =
-    set (set (copied L start (entries (L .spaced) And) (entries (L .spaced) Orr) (entries (L .spaced) Xor) l 4) (start + 240) (L .zero)) (start + 240 + 1) (L .one)
+    set (set (copied L start (entries (L .spaced) And) (entries (L .spaced) Orr) (entries (L .spaced) Xor) l 16) (start + 240) (L .zero)) (start + 240 + 1) (L .one)
 
 -- the bytes of the table page
 unfoldable pub pageBytes : Layout → List ℕ

@@ -12,7 +12,7 @@ ghost use Rattle.model.specs.Answers.{report, outcome};
 ghost use Rattle.model.specs.Layouts.{Known};
 ghost use Rattle.model.specs.Images.{mapAt};
 ghost use Rattle.model.specs.Images.{bitRight, imageRight, every, imageIn, bitsIn, toImageOutcome, fromImageOutcome};
-ghost use Rattle.images.specs.Pages.{entries, Small, reachedBy, copied, paged, pageBytes};
+ghost use Rattle.images.specs.Pages.{entries, Small, entered, copied, paged, pageBytes};
 ghost use Rattle.images.specs.Moving.{movedIn, moveOutcome};
 ghost use Rattle.images.specs.Ranges.{either, onPage, between, kept, chosen, filled, placed};
 use model::Answer;
@@ -33,10 +33,8 @@ const SPACED_ORR: [u8; TABLE] = [0, 0, 0, 1, 0, 0, 1, 0, 0, 1, 0, 0, 4, 0, 0, 0]
 
 const SPACED_XOR: [u8; TABLE] = [0, 0, 0, 4, 0, 0, 1, 0, 0, 1, 0, 0, 4, 0, 0, 0];
 
-// The entries of a table, those that two codes reach, and the cells of the table page.
+// The entries of a table, and the cells of the table page.
 const TABLE: usize = 16;
-
-const REACHED: usize = 4;
 
 const PAGE: usize = 256;
 
@@ -61,20 +59,22 @@ fn xor_table(spaced: bool) -> [u8; TABLE]
     if spaced { SPACED_XOR } else { XOR }
 }
 
-// Which entries two codes of position 0 reach: four of a table, in their order.
-fn reached(spaced: bool, k: usize) -> usize
-    requires { ⌜ k < 4 ⌝ }
-    ensures { λ r. ⌜ r ≡ reachedBy spaced k ⌝ }
+// Writes an entry of each of the three tables of a layout, scaled by the code of 1, that of `and` to `at` and the others as far behind it as their
+// tables are. Where no two codes reach the entry, it is 0 in all three, as the store is before, and is passed over.
+fn put_entry(layout: Layout, and: u8, orr: u8, xor: u8, store: &mut [u8], at: usize)
+    requires { ⌜ Known layout × (and ≤ 4) × (orr ≤ 4) × (xor ≤ 4) × (at + layout .xor < length (now store)) ⌝ }
+    ensures { λ r. ⌜ now (store .exit) ≡ entered layout and orr xor at (now (store .entry)) ⌝ }
 {
-    if spaced {
-        3 + 3 * k
-    } else {
-        5 + k + 2 * (k / 2)
+    if and == 0 {
+        return;
     }
+    store[at] = layout.one * and;
+    store[at + (layout.orr as usize)] = layout.one * orr;
+    store[at + (layout.xor as usize)] = layout.one * xor;
 }
 
-// Copies these entries of the three tables of position 0 to where the layout has them, from `start` on: each scaled by the code of 1, and as far
-// from the next. The twelve others of a table are 0, as the store is there.
+// Copies the three tables of position 0 to where the layout has them in a table page that begins at `start`: its entries are as far from each other as
+// the code of 1 says.
 fn put_tables(
     layout: Layout,
     and: &[u8; TABLE],
@@ -84,20 +84,17 @@ fn put_tables(
     start: usize,
 )
     requires { ⌜ Known layout × Small (now and) × Small (now orr) × Small (now xor) × (start + 256 ≤ length (now store)) ⌝ }
-    ensures { λ r. ⌜ now (store .exit) ≡ copied layout start (now (and .entry)) (now (orr .entry)) (now (xor .entry)) (now (store .entry)) 4 ⌝ }
+    ensures { λ r. ⌜ now (store .exit) ≡ copied layout start (now (and .entry)) (now (orr .entry)) (now (xor .entry)) (now (store .entry)) 16 ⌝ }
 {
     let mut k = 0;
-    while k < REACHED {
-        let i = reached(layout.spaced, k);
-        let at = start + (layout.one as usize) * i;
-        store[at] = layout.one * and[i];
-        store[at + (layout.orr as usize)] = layout.one * orr[i];
-        store[at + (layout.xor as usize)] = layout.one * xor[i];
+    while k < TABLE {
+        let at = start + (layout.one as usize) * k;
+        put_entry(layout, and[k], orr[k], xor[k], store, at);
         k += 1;
     }
 }
 
-// The table page, from `start` on, where the store is 0: the three tables, and the two codes by which a public bit is coded.
+// The table page, written from `start` on to a store that must be 0 there: the three tables, and the two codes by which a public bit is coded.
 fn put_page(layout: Layout, store: &mut [u8], start: usize)
     requires { ⌜ Known layout × (start + 256 ≤ length (now store)) ⌝ }
     ensures { λ r. ⌜ now (store .exit) ≡ paged layout start (now (store .entry)) ⌝ }

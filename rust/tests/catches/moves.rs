@@ -179,7 +179,7 @@ pub fn composed(old: Layout, new: Layout, from: &[u8], into: &mut [u8]) -> Answe
     }
 }
 
-/// What these codes or cells stand for in the old layout.
+/// Moves that take or judge an image by the other one of the two layouts.
 const BY_NEW: [(&str, Move); 10] = [
     ("old and new exchanged", |old, new, from, into| between((old, new), (from, into), (new, old))),
     ("19 judged in the new layout", |old, new, from, into| between((old, new), (from, into), (new, new))),
