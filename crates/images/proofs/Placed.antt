@@ -54,7 +54,7 @@ placed-getD : (key x y : ℕ) (s : State) → length s ≡ stateSize → (i : �
 unfolding placed
 placed-getD key x y s h i g = mapAt-getD (placed key x y) 0 s i (omega arith) ∙ ap (λ (j : ℕ). placed key x y j (getD s i 0)) (zero-add i)
 
--- in each place, what stands in front of the page and what stands on it
+-- in front of the page it is the same whether 0 or what is fixed is written
 front-same : (L : Layout) (i b c : ℕ) → i < 288 → (k : Kind) → kind i ≡ k → byKind (kind i) 0 b c ≡ byKind (kind i) (fixed L i) b c
 front-same L i b c h Neither e = rw (e, front-fixed L i h e)
 front-same L i b c h Public e = rw e
