@@ -101,7 +101,7 @@ listed-run position spacing p e n N i b v x h g =
     run-outcome (listing e n) i b (length q) v x (N .checked) h g ∙ ap (λ (a : List Line). runLeaves a (run a b i v) x) (N .lines-are) ∙ leaves-is q (run q b i v) x
 
 -- so on an image
-imaged-run : (position spacing : ℕ) (p e : List ℕ) (n : ℕ) → Listed position spacing p e n → (i b : ℕ) (s v : State) (x : List ℕ)
+pub imaged-run : (position spacing : ℕ) (p e : List ℕ) (n : ℕ) → Listed position spacing p e n → (i b : ℕ) (s v : State) (x : List ℕ)
     → BitState s → v ≡ image (layoutOf position spacing) s → rowWidth * b ≤ length x
     → let q = expand (layoutOf position spacing) (lines p) in
     let r = run q b i (image (layoutOf position spacing) s) in

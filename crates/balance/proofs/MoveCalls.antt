@@ -17,13 +17,13 @@ use Rattle.model.specs.Claims.{span}
 use Rattle.model.proofs.PlaceLaws.{image-length}
 use Rattle.model.proofs.BackLaws.{back-bits, bits-pass}
 use Rattle.model.proofs.OutcomeLaws.{inside, within, carried-made, carried-goes, first-store}
+use Rattle.model.proofs.DemandThree.{correspondence}
 use Rattle.images.specs.Moving.{StoredImage, moved, movedIn, moveOutcome}
 use Rattle.images.specs.Claims.{Cleared, oldRun, newRun}
-use Rattle.model.proofs.DemandThree.{correspondence}
 use Rattle.images.proofs.Moving.{stored, there-and-back, continued, same-back}
 use Rattle.balance.specs.EntryClaims.{listing, SameCalls, Twin}
 use Rattle.balance.specs.MoveClaims.{stateLeft, Moved, MovedByBits, MovedHome, Continuing, ContinuedCalls, MovedTwin}
-use Rattle.balance.proofs.EntryRuns.{Listed, listed, imaged, ending, listed-run}
+use Rattle.balance.proofs.EntryRuns.{Listed, listed, imaged, ending, listed-run, imaged-run}
 
 -- ---- a move that was not refused
 
@@ -123,7 +123,7 @@ old-calls op os np ns six p e count N s B k n b eb x x′ lent v w a c room long
     let q = expand L (lines p) in
     let r = oldRun L (lines p) k n s in
     let F = correspondence L (N .known) (lines p) (N .accepted) k n s B in
-    let ran = er ∙ listed-run op os p e count N (start L (lines p) k) b (image L s) x (image-length L s ∙ B .long) room in
+    let ran = er ∙ imaged-run op os p e count N (start L (lines p) k) b s (image L s) x B refl room in
     let there : run q b (start L (lines p) k) (image L s) ≡ r = ap (λ (m : ℕ). run q m (start L (lines p) k) (image L s)) eb in
     let state : v ≡ r .state = ap first-store ran ∙ ap (λ (z : Ran). z .state) there in
     let go = em ∙ move-goes op os np ns (N .six) six v lent (subst (StoredImage L) (sym state) (stored L (run (lines p) n k s .state) (r .state) (F .bits) (F .holds))) long in

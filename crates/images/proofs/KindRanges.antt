@@ -1,10 +1,10 @@
--- A state by the ranges of its kinds: what a bit state, an image and the way back have in each of them. Assumes nothing.
+-- A state by the ranges of its kinds: what a bit state and an image may have in each of them, and what is written there. Assumes nothing.
 use mathlib.Core.Path.{_≡_, refl, sym, _∙_}
 use mathlib.Core.Bool.{Bool, true, false, cond, _&&_, _||_}
 use mathlib.Core.List.{List}
 use Prim.Native.Nat.{ℕ, zero, suc, _-_, _≤_, _<_}
 use native.Mathlib.Omega.{arith}
-use borrow.Author.Tests.{lt-ltb, le-ltb, lt-leb, eq-eqb, ne-eqb}
+use borrow.Author.Tests.{lt-ltb, lt-leb, eq-eqb, ne-eqb}
 use lib.Dec.{eqb, leb}
 use lib.ListN.{length, getD, drop}
 use Rattle.model.specs.declared.Layout.{Layout}
@@ -13,37 +13,17 @@ use Rattle.model.specs.Limits.{stateSize}
 use Rattle.model.specs.Places.{State, kind}
 use Rattle.model.specs.Code.{code}
 use Rattle.model.specs.Images.{mapAt, bitRight, fixedRight, imageRight, every}
+use Rattle.model.proofs.PlaceLaws.{public-register, sensitive-register, public-cell, sensitive-cell, table-cell}
 use Rattle.images.specs.Pages.{pageBytes}
 use Rattle.images.specs.Ranges.{between, either, onPage, filled, kept, chosen, placed}
 use Rattle.images.proofs.Tables.{page-fixed, high-fixed}
 use Rattle.images.proofs.Ranges.{tested, skipped, none-left, none-done, range-done, all-done}
 
--- ---- the kind of a place, range by range
+-- ---- r0 to r3; the other ranges are in `PlaceLaws`
 
-module _ (j : ℕ) where
-  scratch : j < 4 → kind j ≡ Neither
-  unfolding kind
-  scratch h = rw (lt-ltb j 4 h)
-
-  public-register : 4 ≤ j → j < 16 → kind j ≡ Public
-  unfolding kind
-  public-register g h = rw (le-ltb j 4 g, lt-ltb j 16 h)
-
-  sensitive-register : 16 ≤ j → j < 32 → kind j ≡ Sensitive
-  unfolding kind
-  sensitive-register g h = rw (le-ltb j 4 (omega arith), le-ltb j 16 g, lt-ltb j 32 h)
-
-  public-cell : 32 ≤ j → j < 160 → kind j ≡ Public
-  unfolding kind
-  public-cell g h = rw (le-ltb j 4 (omega arith), le-ltb j 16 (omega arith), le-ltb j 32 g, lt-ltb j 160 h)
-
-  sensitive-cell : 160 ≤ j → j < 288 → kind j ≡ Sensitive
-  unfolding kind
-  sensitive-cell g h = rw (le-ltb j 4 (omega arith), le-ltb j 16 (omega arith), le-ltb j 32 (omega arith), le-ltb j 160 g, lt-ltb j 288 h)
-
-  page-cell : 288 ≤ j → kind j ≡ Neither
-  unfolding kind
-  page-cell g = rw (le-ltb j 4 (omega arith), le-ltb j 16 (omega arith), le-ltb j 32 (omega arith), le-ltb j 160 (omega arith), le-ltb j 288 g)
+scratch : (j : ℕ) → j < 4 → kind j ≡ Neither
+unfolding kind
+scratch j h = rw (lt-ltb j 4 h)
 
 -- either of one byte is that byte; a choice of 0 and 0 is 0
 twice : (b : Bool) → (b || b) ≡ b
@@ -98,7 +78,7 @@ bits-by-range s a b c d h ea eb ec ed =
     let t3 = tested bitRight s (either 0 1) 16 16 (omega arith) (λ j g l. bit-sensitive j (getD s j 0) (sensitive-register j g (omega arith))) in
     let t4 = skipped bitRight s 32 128 (omega arith) (λ j g l. bit-public j (getD s j 0) (public-cell j g (omega arith))) in
     let t5 = tested bitRight s (either 0 1) 160 128 (omega arith) (λ j g l. bit-sensitive j (getD s j 0) (sensitive-cell j g (omega arith))) in
-    let t6 = tested bitRight s (either 0 0) 288 256 (omega arith) (λ j g l. bit-neither j (getD s j 0) (page-cell j g)) in
+    let t6 = tested bitRight s (either 0 0) 288 256 (omega arith) (λ j g l. bit-neither j (getD s j 0) (table-cell j g)) in
     let pages = between (either 0 0) 288 256 s in
     rw (ea, eb, ec, ed)
     (joined (between (either 0 0) 0 4 s) (between (either 0 1) 16 16 s) (between (either 0 1) 160 128 s) pages
@@ -126,7 +106,7 @@ module _ (L : Layout) where
 
     image-page : (page : List ℕ) → page ≡ pageBytes L → 288 ≤ j → j < stateSize → imageRight L j v ≡ onPage page j v
     unfolding imageRight
-    image-page page e g h = rw (page-cell j g) (sym (high-fixed L j v (getD page (j - 288) 0) (omega arith) (page-fixed L page j e g h)))
+    image-page page e g h = rw (table-cell j g) (sym (high-fixed L j v (getD page (j - 288) 0) (omega arith) (page-fixed L page j e g h)))
 
   pub places-by-range : (s : State) (page : List ℕ) (a b c d : Bool) → length s ≡ stateSize → page ≡ pageBytes L → a ≡ between (either 0 0) 0 1 s
       → b ≡ between (either (L .one) (L .zero)) 16 16 s → c ≡ between (either (L .one) (L .zero)) 160 128 s → d ≡ between (onPage page) 288 256 s
@@ -174,5 +154,5 @@ module _ (key x y : ℕ) where
       let w3 = range-done f s d q (chosen s key x y) two 16 16 (omega arith) (λ j a b. placed-chosen j (getD s j 0) (sensitive-register j a (omega arith))) (e2 ∙ w2) in
       let w4 = range-done f s d q (kept s) three 32 128 (omega arith) (λ j a b. placed-copied j (getD s j 0) (public-cell j a (omega arith))) (e3 ∙ w3) in
       let w5 = range-done f s d q (chosen s key x y) four 160 128 (omega arith) (λ j a b. placed-chosen j (getD s j 0) (sensitive-cell j a (omega arith))) (e4 ∙ w4) in
-      let w6 = range-done f s d q (chosen s 0 0 0) five 288 256 (omega arith) (λ j a b. placed-neither j (getD s j 0) (page-cell j a) ∙ sym (none (eqb (getD s j 0) 0))) (e5 ∙ w5) in
+      let w6 = range-done f s d q (chosen s 0 0 0) five 288 256 (omega arith) (λ j a b. placed-neither j (getD s j 0) (table-cell j a) ∙ sym (none (eqb (getD s j 0) 0))) (e5 ∙ w5) in
       all-done f s d q six 544 (omega arith) (e6 ∙ w6)

@@ -1,5 +1,5 @@
--- The table page that is made of the constant tables, against the definition's: one test of all cells in each of the six layouts.
--- Assumes nothing.
+-- The table page that is made of the constant tables, against the definition's: one test of all cells in each of the six layouts; and the same page
+-- written behind the places of a state. Assumes nothing.
 use mathlib.Core.Path.{_≡_, refl, sym, ap, _∙_}
 use mathlib.Core.List.{List, [], _∷_}
 use mathlib.Core.Bool.{Bool, true, false, cond, _&&_}

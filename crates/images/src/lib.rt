@@ -108,6 +108,7 @@ fn put_page(layout: Layout, store: &mut [u8], start: usize)
     store[start + CODES + 1] = layout.one;
 }
 
+// The table page by itself, to compare an image's with.
 fn page_of(layout: Layout) -> [u8; PAGE]
     requires { ⌜ Known layout ⌝ }
     ensures { λ r. ⌜ r ≡ pageBytes layout ⌝ }
