@@ -16,14 +16,14 @@ use Rattle.model.specs.declared.Operand.{Operand}
 use Rattle.model.specs.declared.Line.{Line}
 use Rattle.model.specs.Limits.{stateSize}
 use Rattle.model.specs.Places.{State, place}
-use Rattle.model.specs.Step.{Row, row, result, argument, alu, distance}
+use Rattle.model.specs.Step.{Row, row, result, argument, alu, distance, onBus, distances}
 use Rattle.model.proofs.TestLaws.{below}
 use Rattle.sets.specs.Walk.{Sets, maxValues, insert, several, values, heads, base, draw, involved, sameRow, allShow}
 use Rattle.sets.specs.Claims.{In}
 use Rattle.choices.specs.Gathering.{Gathered, firstRow, noted, visited, visitedAll, allAt, spot, argumentPlaces, Settled}
 use Rattle.sets.proofs.Members.{first-in, in-some, mem-in, by-member, in-insert, settled}
 use Rattle.sets.proofs.DrawnStates.{Among, heads-at, place-by, address-by, argument-byte}
-use Rattle.choices.proofs.Gathered.{Some, some-put, or-not-and}
+use Rattle.choices.proofs.Gathered.{Some, some-put, or-not-and, and-true}
 
 -- ---- narrowed sets
 
@@ -122,10 +122,6 @@ settled-next S l k Z n = record { some-in = Z .some-in; aim = Z .aim; below = λ
 
 -- ---- the old values
 
-and-true : (a : Bool) → a && true ≡ a
-and-true true = refl
-and-true false = refl
-
 and-comm : (a b : Bool) → a && b ≡ b && a
 and-comm true b = sym (and-true b)
 and-comm false true = refl
@@ -153,18 +149,18 @@ row-but (x ∷ r) (y ∷ q) (suc i) d h g =
 module _ (l : Line) (k : ℕ) (st : ℕ → State) (x : ℕ) (q : Row) (long : 2 < length q) where
   record Old (v : ℕ) : Type 0 where
     writes : result l (st v) ≡ x
-    shows : row l k (st v) ≡ set q 2 (distance v x)
+    shows : row l k (st v) 0 ≡ set q 2 (distance v x)
 
   abbrev alike : Row → List ℕ → Bool
   alike r vs = sameRow r (set q 2 (getD r 2 0)) && allAt (getD r 2 0) x vs
 
-  alike-show : (r : Row) → 2 < length r → (v : ℕ) (vs : List ℕ) → ((w : ℕ) → In w (v ∷ vs) → Old w) → allShow l k r (map st (v ∷ vs)) ≡ alike r (v ∷ vs)
+  alike-show : (r : Row) → 2 < length r → (v : ℕ) (vs : List ℕ) → ((w : ℕ) → In w (v ∷ vs) → Old w) → allShow l k r 0 (map st (v ∷ vs)) ≡ alike r (v ∷ vs)
   unfolding allShow allAt
   alike-show r h v [] o =
-      and-true (sameRow r (row l k (st v))) ∙ ap (sameRow r) (o v (inl refl) .shows) ∙ row-but r q 2 (distance v x) h long
+      and-true (sameRow r (row l k (st v) 0)) ∙ ap (sameRow r) (o v (inl refl) .shows) ∙ row-but r q 2 (distance v x) h long
       ∙ ap (λ (b : Bool). sameRow r (set q 2 (getD r 2 0)) && b) (sym (and-true (eqb (getD r 2 0) (distance v x))))
   alike-show r h v (w ∷ vs) o =
-      let first : sameRow r (row l k (st v)) ≡ sameRow r (set q 2 (getD r 2 0)) && eqb (getD r 2 0) (distance v x) = ap (sameRow r) (o v (inl refl) .shows) ∙ row-but r q 2 (distance v x) h long in
+      let first : sameRow r (row l k (st v) 0) ≡ sameRow r (set q 2 (getD r 2 0)) && eqb (getD r 2 0) (distance v x) = ap (sameRow r) (o v (inl refl) .shows) ∙ row-but r q 2 (distance v x) h long in
       ap₂ _&&_ first (alike-show r h w vs (λ y m. o y (inr m))) ∙ and-both (sameRow r (set q 2 (getD r 2 0))) (eqb (getD r 2 0) (distance v x)) (allAt (getD r 2 0) x (w ∷ vs))
 
 -- ---- states that write the same value
@@ -204,30 +200,30 @@ first-noted g x a r q h = go (ltb maxValues (length (g .results))) refl (ltb max
     go false e false f = rw (e, f, some-there)
 
 module _ (l : Line) (k x : ℕ) where
-  visited-same : (g : Gathered) (a : Bool) (r : Row) (s : State) → First g r → result l s ≡ x → visited l k (noted g x a r) s ≡ noted g x (a && sameRow r (row l k s)) r
+  visited-same : (g : Gathered) (a : Bool) (r : Row) (s : State) → First g r → result l s ≡ x → visited l k (noted g x a r) s ≡ noted g x (a && sameRow r (row l k s 0)) r
   unfolding visited
   visited-same g a r s f e =
-      ap₂ (λ (y : ℕ) (q : Row). noted (noted g x a r) y (sameRow q (row l k s)) q) e (first-noted g x a r (row l k s) f)
-      ∙ noted-again g x a (sameRow r (row l k s)) r
+      ap₂ (λ (y : ℕ) (q : Row). noted (noted g x a r) y (sameRow q (row l k s 0)) q) e (first-noted g x a r (row l k s 0) f)
+      ∙ noted-again g x a (sameRow r (row l k s 0)) r
 
   -- states that write x, after one that did
   same-results : (ss : List State) (g : Gathered) (a : Bool) (r : Row) → First g r → ((s : State) → Among s ss → result l s ≡ x)
-      → visitedAll l k (noted g x a r) ss ≡ noted g x (a && allShow l k r ss) r
+      → visitedAll l k (noted g x a r) ss ≡ noted g x (a && allShow l k r 0 ss) r
   unfolding visitedAll allShow
   same-results [] g a r f w = ap (λ (b : Bool). noted g x b r) (sym (and-true a))
   same-results (s ∷ ss) g a r f w =
       ap (λ (y : Gathered). visitedAll l k y ss) (visited-same g a r s f (w s (List·Memᴰ·head refl)))
-      ∙ same-results ss g (a && sameRow r (row l k s)) r f (λ u m. w u (List·Memᴰ·tail m))
-      ∙ ap (λ (b : Bool). noted g x b r) (sym (and-assoc a (sameRow r (row l k s)) (allShow l k r ss)))
+      ∙ same-results ss g (a && sameRow r (row l k s 0)) r f (λ u m. w u (List·Memᴰ·tail m))
+      ∙ ap (λ (b : Bool). noted g x b r) (sym (and-assoc a (sameRow r (row l k s 0)) (allShow l k r 0 ss)))
 
   -- and with the first of them
   all-same : (s : State) (ss : List State) (g : Gathered) → ((u : State) → Among u (s ∷ ss) → result l u ≡ x)
-      → visitedAll l k g (s ∷ ss) ≡ noted g x (allShow l k (firstRow g (row l k s)) (s ∷ ss)) (firstRow g (row l k s))
+      → visitedAll l k g (s ∷ ss) ≡ noted g x (allShow l k (firstRow g (row l k s 0)) 0 (s ∷ ss)) (firstRow g (row l k s 0))
   unfolding visitedAll visited allShow
   all-same s ss g w =
-      let r = firstRow g (row l k s) in
-      ap (λ (y : ℕ). visitedAll l k (noted g y (sameRow r (row l k s)) r) ss) (w s (List·Memᴰ·head refl))
-      ∙ same-results ss g (sameRow r (row l k s)) r (λ h. rw (ne-eqb (length (g .results)) 0 (λ z. omega arith)) refl) (λ u m. w u (List·Memᴰ·tail m))
+      let r = firstRow g (row l k s 0) in
+      ap (λ (y : ℕ). visitedAll l k (noted g y (sameRow r (row l k s 0)) r) ss) (w s (List·Memᴰ·head refl))
+      ∙ same-results ss g (sameRow r (row l k s 0)) r (λ h. rw (ne-eqb (length (g .results)) 0 (λ z. omega arith)) refl) (λ u m. w u (List·Memᴰ·tail m))
 
 -- ---- the choices that are left where the arguments have one value each
 
@@ -264,8 +260,8 @@ module _ (S : Sets) (l : Line) (k : ℕ) (Z : Settled S l argumentPlaces) (long 
         rw (place-by (l .destination) (set s q v) s (other (base (l .destination)) (Z .aim)))
         (getD-set-same s q v 0 (omega (arith, several-within S q long t, length-map S (λ xs. getD xs 0 0))))
 
-    other-row : row l k (set s q v) ≡ set (row l k s) 2 (distance v (result l s))
-    unfolding row spot involved
+    other-row : row l k (set s q v) 0 ≡ set (row l k s 0) 2 (distance v (result l s))
+    unfolding row distances onBus spot involved
     other-row =
         rw (
           same-result,
@@ -276,24 +272,24 @@ module _ (S : Sets) (l : Line) (k : ℕ) (Z : Settled S l argumentPlaces) (long 
         )
         refl
 
-  own-row : (v : ℕ) → In v (values S q) → T (not (several (values S q))) → row l k s ≡ set (row l k s) 2 (distance v (result l s))
+  own-row : (v : ℕ) → In v (values S q) → T (not (several (values S q))) → row l k s 0 ≡ set (row l k s 0) 2 (distance v (result l s))
   unfolding row
   own-row v m n =
       let e : v ≡ getD s q 0 = settled v (getD s q 0) (values S q) n m (rw (heads-at S q) (first-in (values S q) (Z .some-in q))) in
       rw e refl
 
-  row-long : 2 < length (row l k s)
-  unfolding row
+  row-long : 2 < length (row l k s 0)
+  unfolding row distances
   row-long = omega arith
 
-  old : (v : ℕ) → In v (values S q) → Old l k (set s q) (result l s) (row l k s) row-long v
+  old : (v : ℕ) → In v (values S q) → Old l k (set s q) (result l s) (row l k s 0) row-long v
   old v m = go (several (values S q)) refl
     where
-      go : (b : Bool) → several (values S q) ≡ b → Old l k (set s q) (result l s) (row l k s) row-long v
+      go : (b : Bool) → several (values S q) ≡ b → Old l k (set s q) (result l s) (row l k s 0) row-long v
       go true e = let t : T (several (values S q)) = rw e tt in record { writes = same-result t v; shows = other-row t v }
       go false e =
           let n : T (not (several (values S q))) = rw e tt in
-          record { writes = ap (result l) (same-old n v m); shows = ap (row l k) (same-old n v m) ∙ own-row v m n }
+          record { writes = ap (result l) (same-old n v m); shows = ap (λ (u : State). row l k u 0) (same-old n v m) ∙ own-row v m n }
 
   -- each old value
   olds : (vs : List ℕ) → flatMap (λ v. heads (set S q (v ∷ [])) ∷ []) vs ≡ map (set s q) vs
@@ -310,21 +306,21 @@ module _ (S : Sets) (l : Line) (k : ℕ) (Z : Settled S l argumentPlaces) (long 
   first-old (v ∷ vs) e h = (vs, ap (λ (w : ℕ). w ∷ vs) (sym (heads-at S q ∙ ap (λ (xs : List ℕ). getD xs 0 0) e)))
 
   -- all write the same, and their rows are compared by their distances
-  pub left-visited : (g : Gathered) (r : Row) → r ≡ firstRow g (row l k s) → 2 < length r
+  pub left-visited : (g : Gathered) (r : Row) → r ≡ firstRow g (row l k s 0) → 2 < length r
       → visitedAll l k g (draw S (drop argumentPlaces (involved l)))
-      ≡ noted g (result l s) (sameRow r (set (row l k s) 2 (getD r 2 0)) && allAt (getD r 2 0) (result l s) (values S q)) r
+      ≡ noted g (result l s) (sameRow r (set (row l k s 0) 2 (getD r 2 0)) && allAt (getD r 2 0) (result l s) (values S q)) r
   left-visited g r e h = ap (visitedAll l k g) left-choices ∙ go (first-old (values S q) refl (Z .some-in q))
     where
       writes : (vs : List ℕ) → ((v : ℕ) → In v vs → In v (values S q)) → (u : State) → Among u (map (set s q) vs) → result l u ≡ result l s
       writes vs w u m = let f = Memᴰ·of-map (set s q) vs m in ap (result l) (sym (f .2)) ∙ old (f .0) (w (f .0) (mem-in (f .1))) .writes
 
       go : (us : List ℕ) × (values S q ≡ getD s q 0 ∷ us)
-          → visitedAll l k g (map (set s q) (values S q)) ≡ noted g (result l s) (sameRow r (set (row l k s) 2 (getD r 2 0)) && allAt (getD r 2 0) (result l s) (values S q)) r
+          → visitedAll l k g (map (set s q) (values S q)) ≡ noted g (result l s) (sameRow r (set (row l k s 0) 2 (getD r 2 0)) && allAt (getD r 2 0) (result l s) (values S q)) r
       go c =
           let first : set s q (getD s q 0) ≡ s = set-getD s q 0 in
-          let own : firstRow g (row l k (set s q (getD s q 0))) ≡ r = ap (λ (u : State). firstRow g (row l k u)) first ∙ sym e in
+          let own : firstRow g (row l k (set s q (getD s q 0)) 0) ≡ r = ap (λ (u : State). firstRow g (row l k u 0)) first ∙ sym e in
           let w : (v : ℕ) → In v (getD s q 0 ∷ c .0) → In v (values S q) = λ v m. rw (c .1) m in
           rw (c .1)
           (all-same l k (result l s) (set s q (getD s q 0)) (map (set s q) (c .0)) g (writes (getD s q 0 ∷ c .0) w)
-          ∙ ap (λ (p : Row). noted g (result l s) (allShow l k p (map (set s q) (getD s q 0 ∷ c .0))) p) own
-          ∙ ap (λ (b : Bool). noted g (result l s) b r) (alike-show l k (set s q) (result l s) (row l k s) row-long r h (getD s q 0) (c .0) (λ v m. old v (w v m))))
+          ∙ ap (λ (p : Row). noted g (result l s) (allShow l k p 0 (map (set s q) (getD s q 0 ∷ c .0))) p) own
+          ∙ ap (λ (b : Bool). noted g (result l s) b r) (alike-show l k (set s q) (result l s) (row l k s 0) row-long r h (getD s q 0) (c .0) (λ v m. old v (w v m))))

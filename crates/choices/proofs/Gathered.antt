@@ -17,7 +17,7 @@ use Rattle.model.specs.Limits.{stateSize}
 use Rattle.model.specs.Places.{State}
 use Rattle.model.specs.Step.{Row, row, result}
 use Rattle.model.proofs.TestLaws.{below}
-use Rattle.sets.specs.Walk.{Sets, maxValues, insert, insertAll, values, heads, draw, involved, choices, written, sameRow, allShow, steady, member}
+use Rattle.sets.specs.Walk.{Sets, maxValues, insert, insertAll, values, heads, draw, involved, choices, written, sameRow, allShow, allBuses, steady, member}
 use Rattle.sets.specs.Claims.{Full}
 use Rattle.choices.specs.Gathering.{Gathered, gathered, noted, visited, visitedAll, Tells}
 
@@ -75,24 +75,28 @@ or-not-and true b c = refl
 or-not-and false true c = refl
 or-not-and false false c = refl
 
+pub and-true : (a : Bool) → a && true ≡ a
+and-true true = refl
+and-true false = refl
+
 or-not-true : (a : Bool) → a ≡ a || not true
 or-not-true true = refl
 or-not-true false = refl
 
-same-row : (r : Row) → sameRow r r ≡ true
+pub same-row : (r : Row) → sameRow r r ≡ true
 unfolding sameRow
 same-row [] = refl
 same-row (x ∷ r) = rw (eq-eqb x x refl) (same-row r)
 
 module _ (l : Line) (k : ℕ) (r : Row) where
   visited-more : (xs : List ℕ) (leak : Bool) (s : State) → 0 < length xs → length xs ≤ maxValues → visited l k (gathered xs leak r) s
-      ≡ cond (ltb maxValues (length (insert xs (result l s)))) (gathered (insert xs (result l s)) leak r) (gathered (insert xs (result l s)) (leak || not (sameRow r (row l k s))) r)
+      ≡ cond (ltb maxValues (length (insert xs (result l s)))) (gathered (insert xs (result l s)) leak r) (gathered (insert xs (result l s)) (leak || not (sameRow r (row l k s 0))) r)
   unfolding visited noted
   visited-more xs leak s g h = rw (le-ltb maxValues (length xs) h, ne-eqb (length xs) 0 (λ e. omega arith))
 
   -- after the first, whose row is r
   tells-more : (ss : List State) (xs : List ℕ) (leak : Bool) → 0 < length xs → length xs ≤ maxValues
-      → Tells (visitedAll l k (gathered xs leak r) ss) (insertAll xs (map (result l) ss)) (leak || not (allShow l k r ss))
+      → Tells (visitedAll l k (gathered xs leak r) ss) (insertAll xs (map (result l) ss)) (leak || not (allShow l k r 0 ss))
   unfolding visitedAll insertAll allShow
   tells-more [] xs leak g h = rw (le-ltb maxValues (length xs) h) (refl, h, or-not-true leak)
   tells-more (s ∷ ss) xs leak g h = go (λ leak h. tells-more ss (insert xs x) leak (insert-some xs x) h) (ltb maxValues (length (insert xs x))) refl
@@ -101,33 +105,33 @@ module _ (l : Line) (k : ℕ) (r : Row) where
       x = result l s
 
       same : Bool
-      same = sameRow r (row l k s)
+      same = sameRow r (row l k s 0)
 
-      go : ((leak : Bool) → length (insert xs x) ≤ maxValues → Tells (visitedAll l k (gathered (insert xs x) leak r) ss) (insertAll (insert xs x) (map (result l) ss)) (leak || not (allShow l k r ss)))
+      go : ((leak : Bool) → length (insert xs x) ≤ maxValues → Tells (visitedAll l k (gathered (insert xs x) leak r) ss) (insertAll (insert xs x) (map (result l) ss)) (leak || not (allShow l k r 0 ss)))
           → (b : Bool) → ltb maxValues (length (insert xs x)) ≡ b
-          → Tells (visitedAll l k (visited l k (gathered xs leak r) s) ss) (insertAll (insert xs x) (map (result l) ss)) (leak || not (same && allShow l k r ss))
+          → Tells (visitedAll l k (visited l k (gathered xs leak r) s) ss) (insertAll (insert xs x) (map (result l) ss)) (leak || not (same && allShow l k r 0 ss))
       go rest true e =
           let m = ltb-true maxValues (length (insert xs x)) e in
           rw (visited-more xs leak s g h, e, many-stays l k (gathered (insert xs x) leak r) ss m, e) (omega (arith, all-grows (insert xs x) (map (result l) ss)))
-      go rest false e = rw (visited-more xs leak s g h, e, ← or-not-and leak same (allShow l k r ss)) (rest (leak || not same) (ltb-false maxValues (length (insert xs x)) e))
+      go rest false e = rw (visited-more xs leak s g h, e, ← or-not-and leak same (allShow l k r 0 ss)) (rest (leak || not same) (ltb-false maxValues (length (insert xs x)) e))
 
 -- the first choice gives the row
 insert-first : (x : ℕ) → insert [] x ≡ x ∷ []
 unfolding insert member
 insert-first x = refl
 
-first-visited : (l : Line) (k : ℕ) (r : Row) (s : State) → visited l k (gathered [] false r) s ≡ gathered (result l s ∷ []) false (row l k s)
+first-visited : (l : Line) (k : ℕ) (r : Row) (s : State) → visited l k (gathered [] false r) s ≡ gathered (result l s ∷ []) false (row l k s 0)
 unfolding visited noted
-first-visited l k r s = rw (insert-first (result l s), same-row (row l k s)) refl
+first-visited l k r s = rw (insert-first (result l s), same-row (row l k s 0)) refl
 
 first-tells : (l : Line) (k : ℕ) (r : Row) (s : State) (ss : List State)
-    → Tells (visitedAll l k (gathered [] false r) (s ∷ ss)) (insertAll [] (map (result l) (s ∷ ss))) (not (allShow l k (row l k s) (s ∷ ss)))
+    → Tells (visitedAll l k (gathered [] false r) (s ∷ ss)) (insertAll [] (map (result l) (s ∷ ss))) (not (allShow l k (row l k s 0) 0 (s ∷ ss)))
 unfolding visitedAll insertAll allShow
 first-tells l k r s ss =
-    let g : visitedAll l k (gathered [] false r) (s ∷ ss) ≡ visitedAll l k (gathered (result l s ∷ []) false (row l k s)) ss = ap (λ (g : Gathered). visitedAll l k g ss) (first-visited l k r s) in
+    let g : visitedAll l k (gathered [] false r) (s ∷ ss) ≡ visitedAll l k (gathered (result l s ∷ []) false (row l k s 0)) ss = ap (λ (g : Gathered). visitedAll l k g ss) (first-visited l k r s) in
     let xs : insertAll [] (map (result l) (s ∷ ss)) ≡ insertAll (result l s ∷ []) (map (result l) ss) = ap (λ (xs : List ℕ). insertAll xs (map (result l) ss)) (insert-first (result l s)) in
-    let all : allShow l k (row l k s) (s ∷ ss) ≡ allShow l k (row l k s) ss = ap (λ (b : Bool). b && allShow l k (row l k s) ss) (same-row (row l k s)) in
-    rw (g, xs, all) (tells-more l k (row l k s) ss (result l s ∷ []) false (omega arith) (omega arith))
+    let all : allShow l k (row l k s 0) 0 (s ∷ ss) ≡ allShow l k (row l k s 0) 0 ss = ap (λ (b : Bool). b && allShow l k (row l k s 0) 0 ss) (same-row (row l k s 0)) in
+    rw (g, xs, all) (tells-more l k (row l k s 0) ss (result l s ∷ []) false (omega arith) (omega arith))
 
 -- ---- the first choice
 
@@ -164,11 +168,11 @@ first-choice (f ∷ fs) S h = go (λ S h. first-choice fs S h) (values S (f (hea
         let same : heads (set S i (v ∷ [])) ≡ heads S = map-set-same (λ xs. getD xs 0 0) S i (v ∷ []) (0 ∷ []) (ap (λ (xs : List ℕ). getD xs 0 0) (sym e)) in
         (r .0 ++ flatMap (λ v. draw (set S i (v ∷ [])) fs) vs, rw (r .1, same) refl)
 
--- a walk's step is told of by what the choices gave, from nothing
-pub tells : (S : Sets) (l : Line) (k : ℕ) (r : Row) → Some S → Tells (visitedAll l k (gathered [] false r) (choices S l)) (written S l) (not (steady S l k))
-unfolding choices written steady
-tells S l k r h = go (first-choice (involved l) S h)
+-- a walk's step is told of by what the choices gave, from nothing, where the bus holds 0
+pub tells : (S : Sets) (l : Line) (k : ℕ) (r : Row) → Some S → Tells (visitedAll l k (gathered [] false r) (choices S l)) (written S l) (not (steady S (0 ∷ []) l k))
+unfolding choices written steady allBuses
+tells S l k r h = rw (and-true (allShow l k (row l k (heads S) 0) 0 (draw S (involved l)))) (go (first-choice (involved l) S h))
   where
     go : (ss : List State) × (draw S (involved l) ≡ heads S ∷ ss)
-        → Tells (visitedAll l k (gathered [] false r) (draw S (involved l))) (insertAll [] (map (result l) (draw S (involved l)))) (not (allShow l k (row l k (heads S)) (draw S (involved l))))
+        → Tells (visitedAll l k (gathered [] false r) (draw S (involved l))) (insertAll [] (map (result l) (draw S (involved l)))) (not (allShow l k (row l k (heads S) 0) 0 (draw S (involved l))))
     go c = rw (c .1) (first-tells l k r (heads S) (c .0))

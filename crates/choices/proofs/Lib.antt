@@ -3,3 +3,4 @@ pub mod Gathered
 pub mod Exploring
 pub mod Turns
 pub mod Narrowing
+pub mod BusLaws

@@ -1,7 +1,7 @@
 -- Sets as bytes: the 17 bytes of a place, how many values they list and which, and what becomes of the lists when bytes are written.
 -- Assumes nothing.
 use mathlib.Core.Path.{_≡_, refl, sym, ap, _∙_}
-use mathlib.Core.List.{List, [], _∷_, _++_, append-nil}
+use mathlib.Core.List.{List, [], _∷_, _++_, append-nil, map}
 use Prim.Native.Nat.{ℕ, zero, suc, _+_, _-_, _*_, _≤_, _<_}
 use native.Mathlib.Nat.{not-suc-le-zero, le-of-suc-le-suc}
 use native.Mathlib.Decide.{ℕ-discrete}
@@ -170,3 +170,10 @@ module _ (r new : List ℕ) (j : ℕ) where
 
   pub front-over : length r ≤ j → take j new ++ drop j r ≡ take j new
   front-over h = rw (drop-of-length-le r {i = j} h) (append-nil (take j new))
+
+-- ---- what a function makes of a list
+
+pub map-at : (f : ℕ → ℕ) (xs : List ℕ) (j : ℕ) → j < length xs → getD (map f xs) j 0 ≡ f (getD xs j 0)
+map-at f [] j h = absurd (omega arith)
+map-at f (x ∷ xs) zero h = refl
+map-at f (x ∷ xs) (suc j) h = map-at f xs j (omega arith)

@@ -14,6 +14,7 @@ use Rattle.model.specs.Limits.{stateSize}
 use Rattle.model.specs.Step.{Row, distance}
 use Rattle.sets.specs.Walk.{maxValues, setWidth, sized, member, insert, insertAll, sameRow}
 use Rattle.choices.specs.Gathering.{allAt}
+use Rattle.choices.specs.Bus.{allMet}
 
 -- ---- the values of a list
 
@@ -45,6 +46,20 @@ module _ (xs : List ℕ) (j : ℕ) where
     pub one-off : j < length xs → (distance (getD xs j 0) x ≡ d → ⊥) → allAt d x (drop j xs) ≡ false
     unfolding allAt
     one-off h e = rw (drop-cons xs j 0 h, ne-eqb d (distance (getD xs j 0) x) (λ q. e (sym q)))
+
+  -- whether each is at the distance d from all values of the bus
+  module _ (d : ℕ) (bus : List ℕ) where
+    pub met-over : length xs ≤ j → allMet d bus (drop j xs) ≡ true
+    unfolding allMet
+    met-over h = rw (drop-of-length-le xs h)
+
+    pub met-next : j < length xs → allAt d (getD xs j 0) bus ≡ true → allMet d bus (drop j xs) ≡ allMet d bus (drop (j + 1) xs)
+    unfolding allMet
+    met-next h e = rw (drop-cons xs j 0 h, e, add-one j)
+
+    pub not-met : j < length xs → allAt d (getD xs j 0) bus ≡ false → allMet d bus (drop j xs) ≡ false
+    unfolding allMet
+    not-met h e = rw (drop-cons xs j 0 h, e)
 
   -- each put behind the others, where it is new
   module _ (ys : List ℕ) where

@@ -47,9 +47,10 @@ noted g x same r =
     (cond (ltb maxValues (length (insert (g .results) x))) (gathered (insert (g .results) x) (g .leak) r)
     (gathered (insert (g .results) x) (g .leak || not same) r))
 
+-- rows are those of a bus that holds 0: what it may hold is looked at apart (specs/Bus)
 unfoldable pub visited : Line → ℕ → Gathered → State → Gathered
 unfolding noted result row sameRow
-visited l k g s = noted g (result l s) (sameRow (firstRow g (row l k s)) (row l k s)) (firstRow g (row l k s))
+visited l k g s = noted g (result l s) (sameRow (firstRow g (row l k s 0)) (row l k s 0)) (firstRow g (row l k s 0))
 
 -- choices, in their order
 unfoldable pub visitedAll : Line → ℕ → Gathered → List State → Gathered
@@ -81,7 +82,7 @@ unfolding distance
 allAt d x [] = true
 allAt d x (v ∷ vs) = eqb d (distance v x) && allAt d x vs
 
--- whether a row q is the row r but for the distance, and all old values are at the distance of r from a result
+-- whether a row q is the row r but for the distance of the write, and all old values are at that distance of r from a result
 abbrev pub alike : Row → Row → ℕ → List ℕ → Bool
 alike r q x vs = sameRow r (set q 2 (getD r 2 0)) && allAt (getD r 2 0) x vs
 

@@ -1,9 +1,9 @@
 // The choices of a line, one after the other. The walk keeps the sets as bytes and beside them the state of their first values. A place
 // that is drawn takes each of its values in turn and has it alone while the later places are drawn, so that a place used twice is not
 // drawn again, and a choice is a state of the machine. The old value is not drawn: where the destination may have several, only the
-// distance turns on it. bytes.rt has the bytes of sets.
+// distance of the write turns on it; nor is the bus, whose values bus.rt looks at. bytes.rt has the bytes of sets.
 ghost use mathlib.Core.Path.{_≡_};
-ghost use mathlib.Core.Bool.{cond};
+ghost use mathlib.Core.Bool.{true, cond};
 ghost use Prim.Native.Nat.{suc, _+_, _*_, _<_, _≤_};
 ghost use lib.Dec.{eqb, ltb};
 ghost use lib.ListN.{length, getD, set, drop};
@@ -25,12 +25,13 @@ use model::STATE_SIZE;
 use sets::SET_WIDTH;
 use sets::SETS_SIZE;
 
+pub mod bus;
 pub mod bytes;
 
 // The places of the arguments: two bases, and what they name.
 const ARGUMENT_PLACES: usize = 4;
 
-// Where the distance stands in a row.
+// Where the distance of the write stands in a row.
 const CHANGED: usize = 2;
 
 // The base register of the operand of a number.
@@ -110,14 +111,14 @@ fn is_same(a: &[u16], b: &[u16]) -> bool
 }
 
 // Whether all old values of a place are at that distance from a result.
-fn is_at(sets: &[u8], i: usize, result: u8, distance: u16) -> bool
-    requires { ⌜ length (now sets) ≡ setWidth * stateSize ⌝ }
+fn is_at(sets: &[u8], i: usize, result: u8, distance: u16, weights: &[u16; PLACES]) -> bool
+    requires { ⌜ (length (now sets) ≡ setWidth * stateSize) × Weights (now weights) ⌝ }
     ensures { λ r. ⌜ r ≡ allAt distance result (values (listsOf (now (sets .entry))) i) ⌝ }
 {
     let n = size_of(sets, i);
     let mut j = 0;
     while j < n {
-        if machine::distance(value_of(sets, i, j), result) != distance {
+        if machine::distance_of(weights, value_of(sets, i, j) as u16, result as u16) != distance {
             return false;
         }
         j += 1;
@@ -125,15 +126,28 @@ fn is_at(sets: &[u8], i: usize, result: u8, distance: u16) -> bool
     true
 }
 
-// Whether `shown` is the first row but for the distance, and every old value of a place is at the first row's distance from the result.
-fn is_alike(row: &[u16], shown: [u16; ROW_WIDTH], sets: &[u8], i: usize, result: u8) -> bool
-    requires { ⌜ (length (now row) ≡ rowWidth) × (length (now sets) ≡ setWidth * stateSize) ⌝ }
+// Whether `shown` is the first row but for the distance of the write, and every old value of a place is at that distance of the first row from
+// the result. Where `shown` is the first itself it need not be compared.
+fn is_alike(
+    row: &[u16],
+    shown: [u16; ROW_WIDTH],
+    first: bool,
+    sets: &[u8],
+    i: usize,
+    result: u8,
+    weights: &[u16; PLACES],
+) -> bool
+    requires { ⌜ (length (now row) ≡ rowWidth) × (first ≡ true → now row ≡ shown) × (length (now sets) ≡ setWidth * stateSize) × Weights (now weights) ⌝ }
     ensures { λ r. ⌜ r ≡ alike (now (row .entry)) shown result (values (listsOf (now (sets .entry))) i) ⌝ }
 {
+    let changed = row[CHANGED];
+    if first {
+        return is_at(sets, i, result, changed, weights);
+    }
     let mut rest = shown;
-    rest[CHANGED] = row[CHANGED];
+    rest[CHANGED] = changed;
     if is_same(row, &rest) {
-        return is_at(sets, i, result, row[CHANGED]);
+        return is_at(sets, i, result, changed, weights);
     }
     false
 }
@@ -160,8 +174,8 @@ fn put_row(row: &mut [u16], new: &[u16])
     }
 }
 
-// The choices that are left when the arguments have their values: each old value of the destination. All write the same; their rows are
-// compared with the first row of all, which is kept where there is none yet.
+// The choices that are left when the arguments have their values: each old value of the destination. All write the same; their rows, with 0 on
+// the bus, are compared with the first row of all, which is kept where there is none yet.
 fn visit(
     line: &[u16],
     counter: u16,
@@ -182,11 +196,13 @@ fn visit(
         line[3],
         line[4],
         counter,
+        0,
         state,
         weights,
     );
     let shown = e.row;
-    keep_row(row, &shown, found[0] == 0);
+    let first = found[0] == 0;
+    keep_row(row, &shown, first);
     note(found, e.result);
     if is_overfull(found) {
         return leak;
@@ -194,7 +210,7 @@ fn visit(
     if leak {
         return true;
     }
-    !is_alike(row, shown, sets, e.place, e.result)
+    !is_alike(row, shown, first, sets, e.place, e.result, weights)
 }
 
 // Sets the count and the first value of a place's set, and the value that it has in the state.

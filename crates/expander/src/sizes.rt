@@ -25,11 +25,11 @@ fn scale_size(layout: Layout) -> u16
     if spaced { 2 } else { 3 }
 }
 
-// and, orr, xor, whichever their table and destination are: the loads, the scaling, and two lines each to combine, fetch and write back.
+// and, orr, xor, whichever their table and destination are: the loads, the scaling, two lines to combine, three to fetch and two to write back.
 fn lookup_size(layout: Layout, a: u16, b: u16) -> u16
     ensures { λ r. ⌜ ((t : ℕ) (d : Operand) → r ≡ length (lookup layout t d (coded layout (operandOf a)) (coded layout (operandOf b)))) ⌝ }
 {
-    load_size(a) + scale_size(layout) + load_size(b) + 6
+    load_size(a) + scale_size(layout) + load_size(b) + 7
 }
 
 // Of not a load, the flip and two lines to write back, of mov a load and those two; all other opcodes give nothing here.

@@ -19,7 +19,7 @@ use Rattle.model.proofs.TestLaws.{is-true}
 use Rattle.model.proofs.Finite.{code-back}
 use Rattle.model.proofs.PlaceLaws.{mapAt-getD, image-length}
 use Rattle.model.proofs.BackLaws.{back-image, image-passes, back-getD, back-bits, image-back}
-use Rattle.model.proofs.Runs.{run-add}
+use Rattle.model.proofs.Runs.{run-add, bus-apart}
 use Rattle.model.proofs.DemandThree.{equal-traces, correspondence}
 use Rattle.images.specs.Moving.{StoredImage, moved}
 use Rattle.images.specs.Claims.{EachPlace, Cleared, ThereAndBack, oldRun, Continued, EqualFromTheMove}
@@ -110,8 +110,9 @@ continued old new K N p A k n m s b =
     let H = correspondence old K p A k (n + m) s b in
     let v = oldRun old p k n s .state in
     let is : moved old new v ≡ image new (x .state) = moved-image old (x .state) v (F .bits) (F .holds) new K in
-    let whole : run p (n + m) k s .state ≡ run p m (x .at) (x .state) .state = ap (λ (r : Ran). r .state) (run-add p n m k s) in
-    let there : run p (n + m) k s .at ≡ run p m (x .at) (x .state) .at = ap (λ (r : Ran). r .at) (run-add p n m k s) in
+    let apart = bus-apart p m (x .at) (x .state) (x .bus) 0 in
+    let whole : run p (n + m) k s .state ≡ run p m (x .at) (x .state) .state = ap (λ (r : Ran). r .state) (run-add p n m k s 0) ∙ apart .state in
+    let there : run p (n + m) k s .at ≡ run p m (x .at) (x .state) .at = ap (λ (r : Ran). r .at) (run-add p n m k s 0) ∙ apart .at in
     let goes : State → Ran = λ u. run (expand new p) (span new p m (x .at) (x .state)) (start new p (x .at)) u in
     record {
       stood = F .stands;

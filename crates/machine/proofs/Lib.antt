@@ -1,4 +1,5 @@
 pub mod NamedPlaces
+pub mod RowsRead
 pub mod PlaceTables
 pub mod Product
 pub mod Loops

@@ -29,5 +29,5 @@ module _ (p : List ℕ) (start budget : ℕ) (s t : List ℕ) where
     unfolding runOutcome
     no-room h k = rw (e, eq-eqb (length s) stateSize h, lt-ltb _ _ k)
 
-    pub runs : length s ≡ stateSize → rowWidth * budget ≤ length t → runFrom p (lineCount p) budget (machine (record { counter = start; steps = 0 }) s t) ≡ runOutcome p start budget s t
+    pub runs : length s ≡ stateSize → rowWidth * budget ≤ length t → runFrom p (lineCount p) budget (machine (record { counter = start; steps = 0; bus = 0 }) s t) ≡ runOutcome p start budget s t
     runs h k = run-leaves p start budget s t k ∙ sym (run-outcome p start budget n s t e h k)

@@ -14,7 +14,7 @@ use Rattle.model.specs.Limits.{rowWidth}
 use Rattle.model.specs.Answers.{halted, spent, Outcome, outcome}
 use Rattle.model.specs.Stored.{lineAt, lineCount, lines}
 use Rattle.model.specs.Step.{Row, row}
-use Rattle.model.specs.Run.{Ran, push, run, answer, runLeaves}
+use Rattle.model.specs.Run.{Ran, ran, push, runOn, run, answer, runLeaves}
 use Rattle.model.proofs.StoredLaws.{length-lines, get-line, no-line}
 use Rattle.model.proofs.Runs.{row-length, flat, step-run, stopped}
 use Rattle.machine.specs.Loop.{Machine, machine, putRow, stepBy, stepOf, haltedAt, spentAt, runFrom}
@@ -47,7 +47,7 @@ left m n x =
     (x .state ∷ (take (rowWidth * m .run .steps) (m .trace) ++ (flat (x .rows) ++ drop (rowWidth * m .run .steps + length (flat (x .rows))) (m .trace))) ∷ [])
 
 -- no step more
-none-left : (n : ℕ) (m : Machine) → left m n (record { at = m .run .counter; state = m .state; rows = [] }) ≡ cond (ltb (m .run .counter) n) (spentAt m) (haltedAt m)
+none-left : (n : ℕ) (m : Machine) → left m n (ran (m .run .counter) (m .state) (m .run .bus) []) ≡ cond (ltb (m .run .counter) n) (spentAt m) (haltedAt m)
 unfolding flatMap
 none-left n m = go (ltb (m .run .counter) n)
   where
@@ -64,13 +64,13 @@ none-left n m = go (ltb (m .run .counter) n)
 
 -- one step more
 one-left : (p : List ℕ) (n : ℕ) (m : Machine) (x : Ran) → rowWidth * m .run .steps + rowWidth ≤ length (m .trace)
-    → left (stepOf p m) n x ≡ left m n (push (row (lineAt p (m .run .counter)) (m .run .counter) (m .state)) x)
+    → left (stepOf p m) n x ≡ left m n (push (row (lineAt p (m .run .counter)) (m .run .counter) (m .state) (m .run .bus)) x)
 unfolding stepBy flatMap
 one-left p n m x h =
     let j = m .run .steps in
     let t = m .trace in
-    let r = row (lineAt p (m .run .counter)) (m .run .counter) (m .state) in
-    let e = row-length (lineAt p (m .run .counter)) (m .run .counter) (m .state) in
+    let r = row (lineAt p (m .run .counter)) (m .run .counter) (m .state) (m .run .bus) in
+    let e = row-length (lineAt p (m .run .counter)) (m .run .counter) (m .state) (m .run .bus) in
     let f = flat (x .rows) in
     let z : j + 1 + length (x .rows) ≡ j + suc (length (x .rows)) = omega arith in
     let d : rowWidth * (j + 1) + length f ≡ rowWidth * j + length (r ++ f) = omega (arith, e, length-append r f) in
@@ -81,31 +81,31 @@ unfolding stepBy
 room p b m h =
     omega (
       arith,
-      put-length (m .trace) (m .run .steps) (row (lineAt p (m .run .counter)) (m .run .counter) (m .state))
-          (row-length (lineAt p (m .run .counter)) (m .run .counter) (m .state)) (omega arith),
+      put-length (m .trace) (m .run .steps) (row (lineAt p (m .run .counter)) (m .run .counter) (m .state) (m .run .bus))
+          (row-length (lineAt p (m .run .counter)) (m .run .counter) (m .state) (m .run .bus)) (omega arith),
     )
 
 run-left : (p : List ℕ) (b : ℕ) (m : Machine) → rowWidth * (m .run .steps + b) ≤ length (m .trace)
-    → runFrom p (lineCount p) b m ≡ left m (lineCount p) (run (lines p) b (m .run .counter) (m .state))
-unfolding runFrom run stepBy
+    → runFrom p (lineCount p) b m ≡ left m (lineCount p) (runOn (lines p) b (m .run .counter) (m .state) (m .run .bus))
+unfolding runFrom runOn stepBy
 run-left p zero m h = sym (none-left (lineCount p) m)
 run-left p (suc b) m h = go (ltb (m .run .counter) (lineCount p)) refl (run-left p b (stepOf p m) (room p b m h))
   where
     go : (t : Bool) → ltb (m .run .counter) (lineCount p) ≡ t
-        → runFrom p (lineCount p) b (stepOf p m) ≡ left (stepOf p m) (lineCount p) (run (lines p) b (stepOf p m .run .counter) (stepOf p m .state))
-        → cond t (runFrom p (lineCount p) b (stepOf p m)) (haltedAt m) ≡ left m (lineCount p) (run (lines p) (suc b) (m .run .counter) (m .state))
+        → runFrom p (lineCount p) b (stepOf p m) ≡ left (stepOf p m) (lineCount p) (runOn (lines p) b (stepOf p m .run .counter) (stepOf p m .state) (stepOf p m .run .bus))
+        → cond t (runFrom p (lineCount p) b (stepOf p m)) (haltedAt m) ≡ left m (lineCount p) (runOn (lines p) (suc b) (m .run .counter) (m .state) (m .run .bus))
     go true e i =
-        i ∙ one-left p (lineCount p) m (run (lines p) b (stepOf p m .run .counter) (stepOf p m .state)) (omega arith)
-        ∙ ap (λ (x : Ran). left m (lineCount p) x) (sym (step-run (lines p) (m .run .counter) (m .state) _ (get-line p (m .run .counter) (ltb-true _ _ e)) b))
+        i ∙ one-left p (lineCount p) m (runOn (lines p) b (stepOf p m .run .counter) (stepOf p m .state) (stepOf p m .run .bus)) (omega arith)
+        ∙ ap (λ (x : Ran). left m (lineCount p) x) (sym (step-run (lines p) (m .run .counter) (m .state) (m .run .bus) _ (get-line p (m .run .counter) (ltb-true _ _ e)) b))
     go false e i =
-        sym (ap (λ (x : Ran). left m (lineCount p) x) (stopped (lines p) (m .run .counter) (m .state) (no-line p (m .run .counter) (ltb-false _ _ e)) (suc b))
+        sym (ap (λ (x : Ran). left m (lineCount p) x) (stopped (lines p) (m .run .counter) (m .state) (m .run .bus) (no-line p (m .run .counter) (ltb-false _ _ e)) (suc b))
         ∙ none-left (lineCount p) m ∙ ap (λ (t : Bool). cond t (spentAt m) (haltedAt m)) e)
 
 -- a run from no step done
 pub run-leaves : (p : List ℕ) (c b : ℕ) (s t : List ℕ) → rowWidth * b ≤ length t
-    → runFrom p (lineCount p) b (machine (record { counter = c; steps = 0 }) s t) ≡ runLeaves (lines p) (run (lines p) b c s) t
+    → runFrom p (lineCount p) b (machine (record { counter = c; steps = 0; bus = 0 }) s t) ≡ runLeaves (lines p) (run (lines p) b c s) t
 unfolding runLeaves answer
 run-leaves p c b s t h =
     let x = run (lines p) b c s in
-    run-left p b (machine (record { counter = c; steps = 0 }) s t) (omega arith)
+    run-left p b (machine (record { counter = c; steps = 0; bus = 0 }) s t) (omega arith)
     ∙ rw (length-lines p, zero-add (length (x .rows)), zero-add (length (flat (x .rows))))

@@ -3,7 +3,7 @@
 use mathlib.Core.Path.{_≡_}
 use mathlib.Core.Bool.{Bool, true, false, cond}
 use mathlib.Core.List.{List, [], _∷_, _++_}
-use Prim.Native.Nat.{ℕ, zero, suc, _+_, _-_, _*_, _≤_}
+use Prim.Native.Nat.{ℕ, zero, suc, _+_, _-_, _*_, _<_, _≤_}
 use lib.Dec.{ltb}
 use lib.ListN.{getD, take, drop}
 use Rattle.model.specs.declared.Mark.{Mark}
@@ -14,11 +14,12 @@ use Rattle.model.specs.declared.Operand.{Operand}
 use Rattle.model.specs.Limits.{rowWidth, stateSize}
 use Rattle.model.specs.Answers.{halted, spent, Outcome, outcome}
 use Rattle.model.specs.Places.{State, kind, isPublic, place, value}
-use Rattle.model.specs.Stored.{lineAt}
-use Rattle.model.specs.Step.{weight, distance, meaning, Row, result, next, after, row}
+use Rattle.model.specs.Stored.{cells, lineAt}
+use Rattle.model.specs.Step.{weight, distance, meaning, Row, result, next, after, busAfter, row}
 use Rattle.machine.specs.declared.Arguments.{Arguments}
 use Rattle.machine.specs.declared.Effect.{Effect}
 use Rattle.machine.specs.declared.Fetched.{Fetched}
+use Rattle.machine.specs.declared.OnBus.{OnBus}
 use Rattle.machine.specs.declared.steps.Run.{Run}
 
 -- what an operand reads, and its place
@@ -37,9 +38,21 @@ argumentsOf m x y = record { first = readAs m (x .at) (x .value); second = readA
 abbrev pub mask : ℕ → ℕ
 mask i = cond (isPublic (kind i)) 1 255
 
+-- whether a place is a cell, which has an address
+abbrev pub isCell : ℕ → Bool
+isCell i = cond (ltb i 32) false (ltb i stateSize)
+
 -- the number of the cell at place i; 0 where there is none, in a register and past the state
 unfoldable pub addressAt : ℕ → ℕ
-addressAt i = cond (ltb i 32) 0 (cond (ltb i stateSize) (i - 32) 0)
+addressAt i = cond (isCell i) (i - 32) 0
+
+-- the bus after the address of place i, where there is one
+unfoldable pub busAt : ℕ → ℕ → ℕ
+busAt i b = cond (isCell i) (i - 32) b
+
+-- the numbers that an address may be
+abbrev pub addresses : ℕ
+addresses = 512
 
 -- a table with an entry for each place, and for the one past the state, which is none
 abbrev pub ByPlace : (ℕ → ℕ) → List ℕ → Type 0
@@ -52,14 +65,22 @@ Masks = ByPlace mask
 abbrev pub Weights : List ℕ → Type 0
 Weights = ByPlace (λ i. weight (addressAt i))
 
--- the row of line k, from the old value, the result and the places of the arguments and the destination
-abbrev pub rowOf : ℕ → ℕ → ℕ → ℕ → ℕ → ℕ → Row
+-- whether place i is a cell is told by the number of the operand that names it
+unfoldable pub CellBy : ℕ → ℕ → Type 0
+CellBy n i = (n < cells → isCell i ≡ false) × (cells ≤ n → isCell i ≡ true)
+
+-- what the address of place i shows on the bus, where there is one: the bus afterwards, its weight, and its distance from the one before
+abbrev pub onBusAt : ℕ → ℕ → OnBus
+onBusAt i b = record { bus = busAt i b; weight = weight (addressAt i); distance = distance b (busAt i b) }
+
+-- the row of line k, from the old value, the result, and what the addresses of the arguments and the destination show
+abbrev pub rowOf : ℕ → ℕ → ℕ → OnBus → OnBus → OnBus → Row
 rowOf k old result first second destination =
-    k ∷ weight result ∷ distance old result ∷ weight (addressAt first) ∷ weight (addressAt second) ∷ weight (addressAt destination) ∷ []
+    k ∷ weight result ∷ distance old result ∷ first .weight ∷ second .weight ∷ destination .weight ∷ first .distance ∷ second .distance ∷ destination .distance ∷ []
 
 -- what a line does on a state
-abbrev pub effectOf : Line → ℕ → State → Effect
-effectOf l k s = record { result = result l s; place = place (l .destination) s; row = row l k s }
+abbrev pub effectOf : Line → ℕ → State → ℕ → Effect
+effectOf l k s b = record { result = result l s; place = place (l .destination) s; row = row l k s b }
 
 -- jmp, beq, bne: all others go on whatever their arguments
 abbrev pub jumps : Opcode → Bool
@@ -81,7 +102,7 @@ jumps Bne = true
 abbrev pub putRow : List ℕ → ℕ → Row → List ℕ
 putRow t n r = take (rowWidth * n) t ++ r ++ drop (rowWidth * n + rowWidth) t
 
--- the run's counter and step tally, the state, and the trace store
+-- the run's counter, step tally and bus, the state, and the trace store
 pub record Machine : Type 0 where
   pub run : Run
   pub state : State
@@ -93,8 +114,8 @@ machine r s t = record { run = r; state = s; trace = t }
 -- one step of a line
 unfoldable pub stepBy : Line → Machine → Machine
 stepBy l m =
-    machine (record { counter = next l (m .run .counter) (m .state); steps = m .run .steps + 1 })
-    (after l (m .state)) (putRow (m .trace) (m .run .steps) (row l (m .run .counter) (m .state)))
+    machine (record { counter = next l (m .run .counter) (m .state); steps = m .run .steps + 1; bus = busAfter l (m .state) (m .run .bus) })
+    (after l (m .state)) (putRow (m .trace) (m .run .steps) (row l (m .run .counter) (m .state) (m .run .bus)))
 
 -- one step of a stored program
 abbrev pub stepOf : List ℕ → Machine → Machine

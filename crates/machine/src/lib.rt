@@ -9,10 +9,10 @@ ghost use lib.ListN.{length, getD, set};
 ghost use Rattle.model.specs.Limits.{maxLines, rowWidth, stateSize};
 ghost use Rattle.model.specs.Answers.{report, outcome};
 ghost use Rattle.model.specs.Stored.{registers, opcodeOf, operandOf, targetOf, lineOf, lineCount};
-ghost use Rattle.model.specs.Step.{weight, distance, shiftBy, negated, alu, taken, targetLine, meaning, next, after, row};
+ghost use Rattle.model.specs.Step.{weight, distance, shiftBy, negated, alu, taken, targetLine, meaning, next, after, busAfter, row};
 ghost use Rattle.model.specs.Places.{kind, place};
 ghost use Rattle.model.specs.Run.{runOutcome};
-ghost use Rattle.machine.specs.Loop.{fetchOf, argumentsOf, addressAt, mask, Masks, Weights, rowOf, effectOf, jumps, putRow, machine, runFrom};
+ghost use Rattle.machine.specs.Loop.{fetchOf, argumentsOf, addressAt, isCell, CellBy, onBusAt, addresses, mask, Masks, Weights, rowOf, effectOf, jumps, putRow, machine, runFrom};
 use model::Answer;
 use model::LINE_WIDTH;
 use model::Mark;
@@ -31,10 +31,10 @@ fn weight(n: u16) -> u16
 }
 
 // The Hamming distance.
-pub fn distance(x: u8, y: u8) -> u16
+pub fn distance(x: u16, y: u16) -> u16
     ensures { λ r. ⌜ r ≡ distance x y ⌝ }
 {
-    u8::count_ones(x ^ y) as u16
+    u16::count_ones(x ^ y) as u16
 }
 
 fn negated(mark: Mark, x: u8) -> u8
@@ -314,21 +314,28 @@ fn replace(code: u16, result: u8, state: &mut [u8]) -> Replaced
     Replaced { at, old }
 }
 
+// Whether a place is a cell, which has an address.
+fn is_cell(at: usize) -> bool
+    ensures { λ r. ⌜ r ≡ isCell at ⌝ }
+{
+    if at < 32 {
+        return false;
+    }
+    at < STATE_SIZE
+}
+
 // The weight of the address of a place: of a cell its number's, of any other 0.
 fn address_weight(at: usize) -> u16
     ensures { λ r. ⌜ r ≡ weight (addressAt at) ⌝ }
 {
-    if at < 32 {
-        return 0;
-    }
-    if at < STATE_SIZE {
+    if is_cell(at) {
         return weight((at - 32) as u16);
     }
     0
 }
 
 // The weights of the addresses of all places. A run and a walk make them once: not every processor has an instruction that counts ones, and a
-// step shows five weights.
+// row has eight counts of ones.
 pub fn all_weights() -> [u16; PLACES]
     ensures { λ r. ⌜ Weights r ⌝ }
 {
@@ -341,35 +348,74 @@ pub fn all_weights() -> [u16; PLACES]
     weights
 }
 
-// The weight of a byte, by the table: cell n is place 32 + n.
-fn byte_weight(weights: &[u16; PLACES], byte: u8) -> u16
-    requires { ⌜ Weights (now weights) ⌝ }
-    ensures { λ r. ⌜ r ≡ weight byte ⌝ }
+// The weight of a byte or of an address, by the table: cell n is place 32 + n.
+fn weight_of(weights: &[u16; PLACES], n: u16) -> u16
+    requires { ⌜ Weights (now weights) × (n < addresses) ⌝ }
+    ensures { λ r. ⌜ r ≡ weight n ⌝ }
 {
-    weights[32 + (byte as usize)]
+    weights[32 + (n as usize)]
 }
 
-// The row of a line: its number, the weight of the written value, its distance from the old one, and the addresses' weights, by the places of
-// the arguments and the destination.
+// The distance of two bytes or two addresses, by the table.
+pub fn distance_of(weights: &[u16; PLACES], x: u16, y: u16) -> u16
+    requires { ⌜ Weights (now weights) × (x < addresses) × (y < addresses) ⌝ }
+    ensures { λ r. ⌜ r ≡ distance x y ⌝ }
+{
+    weight_of(weights, x ^ y)
+}
+
+// What an operand's address shows on the bus: the bus afterwards, and the address's weight and its distance from the one before.
+struct OnBus {
+    bus: u16,
+    weight: u16,
+    distance: u16,
+}
+
+// The address of the place that an operand's number names, put on the bus. A number below the cells' names no cell: there is no address, and
+// the bus stays. The number is asked and not the place, as it has been asked already to find the place.
+fn put_on_bus(code: u16, at: usize, bus: u16, weights: &[u16; PLACES]) -> OnBus
+    requires { ⌜ Weights (now weights) × (at ≤ stateSize) × CellBy code at × (bus < addresses) ⌝ }
+    ensures { λ r. ⌜ (r ≡ onBusAt at bus) × (r .bus < addresses) ⌝ }
+{
+    if code < coding::CELLS {
+        return OnBus {
+            bus,
+            weight: 0,
+            distance: 0,
+        };
+    }
+    let address = (at - 32) as u16;
+    OnBus {
+        bus: address,
+        weight: weights[at],
+        distance: distance_of(weights, bus, address),
+    }
+}
+
+// The row of a line: its number, the weight of the written value, its distance from the old one, and the weights and distances of the
+// addresses of the first argument, the second and the destination.
 fn row_of(
     line: u16,
     old: u8,
     result: u8,
-    first: usize,
-    second: usize,
-    destination: usize,
+    first: OnBus,
+    second: OnBus,
+    destination: OnBus,
     weights: &[u16; PLACES],
 ) -> [u16; ROW_WIDTH]
-    requires { ⌜ Weights (now weights) × (first ≤ stateSize) × (second ≤ stateSize) × (destination ≤ stateSize) ⌝ }
+    requires { ⌜ Weights (now weights) ⌝ }
     ensures { λ r. ⌜ r ≡ rowOf line old result first second destination ⌝ }
 {
     [
         line,
-        byte_weight(weights, result),
-        byte_weight(weights, old ^ result),
-        weights[first],
-        weights[second],
-        weights[destination],
+        weight_of(weights, result as u16),
+        distance_of(weights, old as u16, result as u16),
+        first.weight,
+        second.weight,
+        destination.weight,
+        first.distance,
+        second.distance,
+        destination.distance,
     ]
 }
 
@@ -388,20 +434,24 @@ pub fn effect_of(
     a: u16,
     b: u16,
     counter: u16,
+    bus: u16,
     state: &[u8],
     weights: &[u16; PLACES],
 ) -> Effect
-    requires { ⌜ Weights (now weights) ⌝ }
-    ensures { λ r. ⌜ r ≡ effectOf (lineOf m o d a b 0) counter (now (state .entry)) ⌝ }
+    requires { ⌜ Weights (now weights) × (bus < addresses) ⌝ }
+    ensures { λ r. ⌜ r ≡ effectOf (lineOf m o d a b 0) counter (now (state .entry)) bus ⌝ }
 {
     let mark = coding::mark_of(m);
     let x = fetch(a, state);
+    let first = put_on_bus(a, x.at, bus, weights);
     let y = fetch(b, state);
+    let second = put_on_bus(b, y.at, first.bus, weights);
     let args = read_arguments(mark, x, y);
     let result = alu(mark, o, args.first, args.second);
     let at = place_at(d, state);
+    let destination = put_on_bus(d, at, second.bus, weights);
     let old = read(state, at);
-    let row = row_of(counter, old, result, x.at, y.at, at, weights);
+    let row = row_of(counter, old, result, first, second, destination, weights);
     Effect {
         result,
         place: at,
@@ -426,9 +476,10 @@ pub fn next_of(m: u16, o: u16, a: u16, b: u16, t: u16, counter: u16, state: &[u8
     advanced(jumps, target_line(t), counter)
 }
 
-// What a step answers: the next counter, and its trace row.
+// What a step answers: the next counter, the bus, and its trace row.
 struct Done {
     next: u16,
+    bus: u16,
     row: [u16; ROW_WIDTH],
 }
 
@@ -441,24 +492,33 @@ fn perform(
     b: u16,
     t: u16,
     counter: u16,
+    bus: u16,
     masks: &[u8; PLACES],
     weights: &[u16; PLACES],
     state: &mut [u8],
 ) -> Done
-    requires { ⌜ (counter < 65535) × Masks (now masks) × Weights (now weights) ⌝ }
-    ensures { λ r. ⌜ (r .next ≡ next (lineOf m o d a b t) counter (now (state .entry))) × (r .row ≡ row (lineOf m o d a b t) counter (now (state .entry))) ⌝ }
+    requires { ⌜ (counter < 65535) × Masks (now masks) × Weights (now weights) × (bus < addresses) ⌝ }
+    ensures { λ r. ⌜ (r .next ≡ next (lineOf m o d a b t) counter (now (state .entry))) × (r .row ≡ row (lineOf m o d a b t) counter (now (state .entry)) bus) ⌝ }
+    ensures { λ r. ⌜ (r .bus ≡ busAfter (lineOf m o d a b t) (now (state .entry)) bus) × (r .bus < addresses) ⌝ }
     ensures { λ r. ⌜ now (state .exit) ≡ after (lineOf m o d a b t) (now (state .entry)) ⌝ }
 {
     let mark = coding::mark_of(m);
     let x = fetch(a, state);
+    let first = put_on_bus(a, x.at, bus, weights);
     let y = fetch(b, state);
+    let second = put_on_bus(b, y.at, first.bus, weights);
     let args = mask_arguments(mark, x, y, masks);
     let result = alu(mark, o, args.first, args.second);
     let jumps = is_taken(o, args.first, args.second);
     let next = advanced(jumps, target_line(t), counter);
     let r = replace(d, result, state);
-    let row = row_of(counter, r.old, result, x.at, y.at, r.at, weights);
-    Done { next, row }
+    let destination = put_on_bus(d, r.at, second.bus, weights);
+    let row = row_of(counter, r.old, result, first, second, destination, weights);
+    Done {
+        next,
+        bus: destination.bus,
+        row,
+    }
 }
 
 // The numbers of row n.
@@ -483,7 +543,7 @@ fn run_lines(
     trace: &mut [u16],
 ) -> Answer
     requires { ⌜ (lineCount (now program) ≤ maxLines) × (rowWidth * budget ≤ length (now trace)) ⌝ }
-    ensures { λ r. ⌜ outcome (report r) (now (state .exit) ∷ now (trace .exit) ∷ []) ≡ runFrom (now (program .entry)) (lineCount (now (program .entry))) budget (machine (record { counter = start; steps = 0 }) (now (state .entry)) (now (trace .entry))) ⌝ }
+    ensures { λ r. ⌜ outcome (report r) (now (state .exit) ∷ now (trace .exit) ∷ []) ≡ runFrom (now (program .entry)) (lineCount (now (program .entry))) budget (machine (record { counter = start; steps = 0; bus = 0 }) (now (state .entry)) (now (trace .entry))) ⌝ }
 {
     let count = program.len() / LINE_WIDTH;
     let masks = all_masks();
@@ -491,6 +551,7 @@ fn run_lines(
     let mut run = Run {
         counter: start,
         steps: 0,
+        bus: 0,
     };
     while (run.counter as usize) < count {
         if budget <= run.steps {

@@ -1,14 +1,15 @@
-// A run's counter and step tally, and one step, which takes both and hands back both.
+// A run's counter, step tally and bus, and one step, which takes all three and hands all back.
 ghost use mathlib.Core.Path.{_≡_};
 ghost use Prim.Native.Nat.{_+_, _*_, _≤_, _<_};
 ghost use lib.ListN.{length};
 ghost use Rattle.model.specs.Limits.{rowWidth};
-ghost use Rattle.machine.specs.Loop.{Masks, Weights, machine, stepOf};
+ghost use Rattle.machine.specs.Loop.{addresses, Masks, Weights, machine, stepOf};
 use super::PLACES;
 
 pub struct Run {
     pub counter: u16,
     pub steps: u16,
+    pub bus: u16,
 }
 
 impl Run {
@@ -21,11 +22,13 @@ impl Run {
         state: &mut [u8],
         trace: &mut [u16],
     ) -> Run
-        requires { ⌜ Masks (now masks) × Weights (now weights) × (self .counter < 65535) × (self .steps < 65535) × (rowWidth * self .steps + rowWidth ≤ length (now trace)) ⌝ }
+        requires { ⌜ Masks (now masks) × Weights (now weights) × (self .counter < 65535) × (self .steps < 65535) × (self .bus < addresses) × (rowWidth * self .steps + rowWidth ≤ length (now trace)) ⌝ }
         ensures { λ r. ⌜ machine r (now (state .exit)) (now (trace .exit)) ≡ stepOf (now (program .entry)) (machine self (now (state .entry)) (now (trace .entry))) ⌝ }
+        ensures { λ r. ⌜ r .bus < addresses ⌝ }
     {
         let counter = self.counter;
         let steps = self.steps;
+        let bus = self.bus;
         let n = coding::numbers_at(program, counter as usize);
         let done = super::perform(
             n[0],
@@ -35,6 +38,7 @@ impl Run {
             n[4],
             n[5],
             counter,
+            bus,
             masks,
             weights,
             state,
@@ -44,6 +48,7 @@ impl Run {
         Run {
             counter: done.next,
             steps: steps + 1,
+            bus: done.bus,
         }
     }
 }

@@ -9,22 +9,23 @@ use lib.Dec.{T}
 use lib.ListN.{replicate, set, drop}
 use Rattle.model.specs.declared.Mark.the-variants.{Unmarked}
 use Rattle.model.specs.declared.Opcode.the-variants.{Not, Mov, And, Orr, Xor, Beq}
-use Rattle.model.specs.declared.Operand.the-variants.{Empty, Literal, Register, PublicCell}
+use Rattle.model.specs.declared.Operand.the-variants.{Empty, Literal, Register, Cell, PublicCell}
 use Rattle.model.specs.declared.Target.the-variants.{Empty as NoTarget, Line as ToLine}
 use Rattle.model.specs.declared.Line.{Line}
 use Rattle.model.specs.declared.Layout.{Layout}
 use Rattle.model.specs.Places.{State}
 use Rattle.model.specs.Lines.{correct}
 use Rattle.model.specs.Text.{sameBytes}
-use Rattle.model.specs.Step.{Row, row, next, after}
-use Rattle.model.specs.Run.{Ran, run}
+use Rattle.model.specs.Step.{Row, row, distances, next, after, busAfter}
+use Rattle.model.specs.Run.{Ran, runOn, run}
 use Rattle.model.specs.Images.{image}
 use Rattle.model.specs.Expansion.{markedLine, move, load, scale, combine, fetch, flip, writeBack, start, expand}
 use Rattle.model.specs.Marks.{Accepted}
 use Rattle.model.proofs.TestLaws.{allBelow}
 use Rattle.model.proofs.Finite.{forLayouts}
 
--- ---- a program with every macro, where the destination is an argument, with a public literal, public bits and a target behind a macro
+-- ---- a program with every macro, where the destination is an argument, with a public literal, public bits, a cell behind a lookup, and a
+-- target behind a macro
 
 abbrev small : List Line
 small =
@@ -38,12 +39,13 @@ small =
     ∷ move (Register 17) (Register 17)
     ∷ markedLine Xor (Register 16) (Register 16) (Register 4)
     ∷ markedLine Orr (Register 17) (PublicCell 4 3) (Register 16)
+    ∷ markedLine And (Cell 200) (Register 16) (Register 17)
     ∷ []
 
 -- it is accepted, so the claims speak of it
 pub small-accepted : Accepted small
 unfolding Accepted correct
-small-accepted = ((tt, (tt, (tt, (tt, (tt, (tt, (tt, (tt, (tt, (tt, tt)))))))))), refl)
+small-accepted = ((tt, (tt, (tt, (tt, (tt, (tt, (tt, (tt, (tt, (tt, (tt, tt))))))))))), refl)
 
 -- bits in r16 and r17
 abbrev bits : ℕ → ℕ → State
@@ -74,5 +76,5 @@ abbrev allClaimed : Layout → Bool
 allClaimed L = let y = ran L 0 0 in ends L 0 0 y && claimed L y 0 1 && claimed L y 1 0 && claimed L y 1 1
 
 pub small-claimed : T (forLayouts allClaimed)
-unfolding allBelow run expand image row next after ones load scale combine fetch flip writeBack
+unfolding allBelow runOn expand image row distances next after busAfter ones load scale combine fetch flip writeBack
 small-claimed = tt

@@ -15,8 +15,8 @@ use Rattle.model.specs.Layouts.{neighbours}
 use Rattle.model.specs.Places.{State, address}
 use Rattle.model.specs.Stored.{linesFrom, operandOf, targetOf}
 use Rattle.model.specs.Text.{spellMark, spellOpcode, spellOperand, spellTarget, readOutcome}
-use Rattle.model.specs.Step.{weight, distance, alu, row, next, after}
-use Rattle.model.specs.Run.{run, answer}
+use Rattle.model.specs.Step.{weight, distance, alu, row, distances, next, after, busAfter}
+use Rattle.model.specs.Run.{runOn, run, answer}
 use Rattle.model.specs.Code.{code, page, andTable, orrTable, xorTable}
 use Rattle.model.specs.Images.{image}
 use Rattle.model.specs.Expansion.{markedLine, move, load, flip, writeBack, expand}
@@ -65,17 +65,17 @@ printed-lines = refl
 
 -- the trace from the image of the all-zero state, and `halted,5`
 pub printed-rows : run (expand neighbours printed) 1000 0 (image neighbours (replicate 544 0)) .rows ≡
-    (0 ∷ 0 ∷ 0 ∷ 0 ∷ 0 ∷ 0 ∷ [])
-    ∷ (1 ∷ 1 ∷ 1 ∷ 0 ∷ 0 ∷ 0 ∷ [])
-    ∷ (2 ∷ 1 ∷ 2 ∷ 0 ∷ 0 ∷ 0 ∷ [])
-    ∷ (3 ∷ 0 ∷ 1 ∷ 0 ∷ 0 ∷ 0 ∷ [])
-    ∷ (4 ∷ 1 ∷ 1 ∷ 0 ∷ 0 ∷ 0 ∷ [])
+    (0 ∷ 0 ∷ 0 ∷ 0 ∷ 0 ∷ 0 ∷ 0 ∷ 0 ∷ 0 ∷ [])
+    ∷ (1 ∷ 1 ∷ 1 ∷ 0 ∷ 0 ∷ 0 ∷ 0 ∷ 0 ∷ 0 ∷ [])
+    ∷ (2 ∷ 1 ∷ 2 ∷ 0 ∷ 0 ∷ 0 ∷ 0 ∷ 0 ∷ 0 ∷ [])
+    ∷ (3 ∷ 0 ∷ 1 ∷ 0 ∷ 0 ∷ 0 ∷ 0 ∷ 0 ∷ 0 ∷ [])
+    ∷ (4 ∷ 1 ∷ 1 ∷ 0 ∷ 0 ∷ 0 ∷ 0 ∷ 0 ∷ 0 ∷ [])
     ∷ []
-unfolding run expand image row next after ones load flip writeBack
+unfolding runOn expand image row distances next after busAfter ones load flip writeBack
 printed-rows = refl
 
 pub printed-answer : answer (expand neighbours printed) (run (expand neighbours printed) 1000 0 (image neighbours (replicate 544 0))) ≡ halted 5 5
-unfolding answer run expand image row next after ones load flip writeBack
+unfolding answer runOn expand image row distances next after busAfter ones load flip writeBack
 printed-answer = refl
 
 -- the line's bytes, and what the two programs print of them, a line of bytes for each
@@ -96,11 +96,11 @@ unfolding expandPrints spellMark spellOpcode spellOperand spellTarget operandOf 
 printed-expansion = refl
 
 pub printed-trace : tracePrints input ≡
-    48 ∷ 44 ∷ 48 ∷ 44 ∷ 48 ∷ 44 ∷ 48 ∷ 44 ∷ 48 ∷ 44 ∷ 48 ∷ 10 ∷
-    49 ∷ 44 ∷ 49 ∷ 44 ∷ 49 ∷ 44 ∷ 48 ∷ 44 ∷ 48 ∷ 44 ∷ 48 ∷ 10 ∷
-    50 ∷ 44 ∷ 49 ∷ 44 ∷ 50 ∷ 44 ∷ 48 ∷ 44 ∷ 48 ∷ 44 ∷ 48 ∷ 10 ∷
-    51 ∷ 44 ∷ 48 ∷ 44 ∷ 49 ∷ 44 ∷ 48 ∷ 44 ∷ 48 ∷ 44 ∷ 48 ∷ 10 ∷
-    52 ∷ 44 ∷ 49 ∷ 44 ∷ 49 ∷ 44 ∷ 48 ∷ 44 ∷ 48 ∷ 44 ∷ 48 ∷ 10 ∷
+    48 ∷ 44 ∷ 48 ∷ 44 ∷ 48 ∷ 44 ∷ 48 ∷ 44 ∷ 48 ∷ 44 ∷ 48 ∷ 44 ∷ 48 ∷ 44 ∷ 48 ∷ 44 ∷ 48 ∷ 10 ∷
+    49 ∷ 44 ∷ 49 ∷ 44 ∷ 49 ∷ 44 ∷ 48 ∷ 44 ∷ 48 ∷ 44 ∷ 48 ∷ 44 ∷ 48 ∷ 44 ∷ 48 ∷ 44 ∷ 48 ∷ 10 ∷
+    50 ∷ 44 ∷ 49 ∷ 44 ∷ 50 ∷ 44 ∷ 48 ∷ 44 ∷ 48 ∷ 44 ∷ 48 ∷ 44 ∷ 48 ∷ 44 ∷ 48 ∷ 44 ∷ 48 ∷ 10 ∷
+    51 ∷ 44 ∷ 48 ∷ 44 ∷ 49 ∷ 44 ∷ 48 ∷ 44 ∷ 48 ∷ 44 ∷ 48 ∷ 44 ∷ 48 ∷ 44 ∷ 48 ∷ 44 ∷ 48 ∷ 10 ∷
+    52 ∷ 44 ∷ 49 ∷ 44 ∷ 49 ∷ 44 ∷ 48 ∷ 44 ∷ 48 ∷ 44 ∷ 48 ∷ 44 ∷ 48 ∷ 44 ∷ 48 ∷ 44 ∷ 48 ∷ 10 ∷
     104 ∷ 97 ∷ 108 ∷ 116 ∷ 101 ∷ 100 ∷ 44 ∷ 53 ∷ 10 ∷ []
-unfolding tracePrints spellMark spellOpcode spellOperand spellTarget operandOf targetOf linesFrom load flip writeBack row next after ones
+unfolding tracePrints spellMark spellOpcode spellOperand spellTarget operandOf targetOf linesFrom load flip writeBack row distances next after busAfter ones
 printed-trace = refl

@@ -117,7 +117,7 @@ combine-correct L K = (mask-right L K, (tt, tt))
 
 fetch-correct : (t : ℕ) → T (ltb t 256) → AllCorrect (fetch t)
 unfolding fetch operandRight isLiteral
-fetch-correct t h = (move-correct (Register 3) (Register 0) tt tt tt, (move-correct (Register 3) (TableCell 1 t) tt tt h, tt))
+fetch-correct t h = (move-correct (Register 3) (TableCell 0 t) tt tt h, (move-correct (Register 3) (TableCell 1 t) tt tt h, (move-correct (Register 2) (TableCell 0 t) tt tt h, tt)))
 
 flip-correct : (L : Layout) (K : Known L) → AllCorrect (flip L)
 unfolding flip correct

@@ -58,6 +58,10 @@ joinedIndex L x y = bitOr (scaled L x) (low L y)
 abbrev pub slot : Layout → ℕ → ℕ → ℕ → ℕ
 slot L o a b = joinedIndex L (code L a) (code L b) + tableAt L o
 
+-- the cell of the table page's place i
+abbrev pub cellOf : ℕ → ℕ
+cellOf i = 256 + i % 256
+
 abbrev pub flipped : Layout → ℕ → ℕ
 flipped L x = bitXor x (L .mask)
 
@@ -96,7 +100,7 @@ pairs L o a b =
     ∷ pair (flipped L x) (code L (alu Marked Not a 0))
     ∷ pair (under (alu Marked Not a 0) 2) 1
     ∷ pair (under (slot L o a b) 256) 1
-    ∷ pair (weight (256 + slot L o a b % 256)) (tableWeight o)
+    ∷ pair (weight (cellOf (slot L o a b))) (tableWeight o)
     ∷ pair (page L (slot L o a b)) (code L c)
     ∷ pair (under c 2) 1
     ∷ pair (cond (eqb x (code L 1)) 1 0) a
@@ -104,6 +108,9 @@ pairs L o a b =
     ∷ pair (under (L .mask) 256) 1
     ∷ pair (under (tableAt L o) 256) 1
     ∷ pair (page L (codeTable + a)) x
+    ∷ pair (distance (cellOf (tableAt L o)) (cellOf (slot L o a b))) 2
+    ∷ pair (distance (cellOf (slot L o a b)) (cellOf (tableAt L o))) 2
+    ∷ pair (page L (tableAt L o)) 0
     ∷ []
 
 abbrev pub agree : List Pair → Bool
@@ -238,6 +245,11 @@ module _ (L : Layout) (K : Known L) where
   unfolding pairs
   table-low o h = under-lt (tableAt L o) 256 (fact K o 0 0 h (omega arith) (omega arith) 22)
 
+  -- a table's first entry is 0
+  pub table-first : (o : ℕ) → o < 3 → page L (tableAt L o) ≡ 0
+  unfolding pairs
+  table-first o h = fact K o 0 0 h (omega arith) (omega arith) 26
+
 -- of two bits and a table
 module _ (L : Layout) (K : Known L) (o a b : ℕ) (ho : o < 3) (ha : a < 2) (hb : b < 2) where
   pub index-weight : weight (joinedIndex L (code L a) (code L b)) ≡ 2
@@ -252,9 +264,18 @@ module _ (L : Layout) (K : Known L) (o a b : ℕ) (ho : o < 3) (ha : a < 2) (hb 
   unfolding pairs
   slot-low = under-lt (slot L o a b) 256 (fact K o a b ho ha hb 15)
 
-  pub slot-weight : weight (256 + slot L o a b % 256) ≡ tableWeight o
+  pub slot-weight : weight (cellOf (slot L o a b)) ≡ tableWeight o
   unfolding pairs
   slot-weight = fact K o a b ho ha hb 16
+
+  -- the bus from the table's start to the entry, and back (request 07)
+  pub slot-there : distance (cellOf (tableAt L o)) (cellOf (slot L o a b)) ≡ 2
+  unfolding pairs
+  slot-there = fact K o a b ho ha hb 24
+
+  pub slot-back : distance (cellOf (slot L o a b)) (cellOf (tableAt L o)) ≡ 2
+  unfolding pairs
+  slot-back = fact K o a b ho ha hb 25
 
   pub slot-holds : page L (slot L o a b) ≡ code L (alu Marked (tableOp o) a b)
   unfolding pairs

@@ -29,6 +29,7 @@ pub mod ExpansionLaws
 pub mod OutcomeLaws
 pub mod CheckAnswers
 pub mod Edges
+pub mod BusExamples
 pub mod ShiftCounts
 pub mod PublicBits
 pub mod ByMacros

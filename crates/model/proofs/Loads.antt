@@ -12,17 +12,17 @@ use Rattle.model.specs.Layouts.{Known}
 use Rattle.model.specs.declared.Mark.the-variants.{Marked}
 use Rattle.model.specs.declared.Operand.{Operand}
 use Rattle.model.specs.declared.Operand.the-variants.{Empty, Literal, Register, Cell, PublicCell, SensitiveCell, TableCell}
-use Rattle.model.specs.Places.{State, isPublic, kindOf, address, value}
+use Rattle.model.specs.Places.{State, isPublic, kindOf, address, hasAddress, value}
 use Rattle.model.specs.Step.{Row, meaning, argument, weight}
+use Rattle.model.specs.Run.{ran}
 use Rattle.model.specs.Code.{code, codeTable}
 use Rattle.model.specs.Images.{BitState, imageAt, SamePublic}
 use Rattle.model.specs.Expansion.{coded, precharged, codeBit, load}
-use Rattle.model.proofs.Runs.{ran}
 use Rattle.model.proofs.Straight.{exec, exec-then}
 use Rattle.model.proofs.PlaceLaws.{mapAt-getD}
 use Rattle.model.proofs.Operands.{SensitivePlace, SensitiveArgument, PublicOperand, MarkedArgument, public-bit, sensitive-bit, steady-argument, steady-public, address-same, value-same, value-at}
 use Rattle.model.proofs.Finite.{code-weight, code-loaded, code-stands}
-use Rattle.model.proofs.Pieces.{held, plus4, shows, six, Scratch, got, kept, Source, charge-shown, Coder, codeBitShown, code-bit-exec}
+use Rattle.model.proofs.Pieces.{held, plus4, still, reading, reach, shows, six, Scratch, got, kept, Source, charge-shown, Coder, codeCell, codeBitShown, code-bit-exec}
 use Rattle.model.proofs.ImageLaws.{zeros, rails, tail-length, same-held, image-page, found}
 
 -- where a load that begins at k ends, by whether a public bit is loaded
@@ -33,21 +33,31 @@ endOf true k = plus4 k
 abbrev pub loadEnd : Operand → ℕ → ℕ
 loadEnd a k = endOf (isPublic (kindOf a)) k
 
--- the rows of the loading lines by public numbers: the code of a bit that is not told, or a public bit v and then its code
-abbrev bitShown : Layout → Bool → ℕ → ℕ → ℕ → List Row
-bitShown L false k v u = six k 1 1 (weight u) 0 0 ∷ []
-bitShown L true k v u = shows k v 0 u 0 0 ∷ codeBitShown L (suc k) v
+-- the bus after a load: at the operand's address, where it has one, or at the cell of a public bit's code
+abbrev busOf : Bool → ℕ → ℕ → ℕ
+busOf false v c = c
+busOf true v c = codeCell v
+
+unfoldable pub loadBus : Operand → State → ℕ → ℕ
+loadBus a s b = busOf (isPublic (kindOf a)) (argument Marked a s) (reach a (address a s) b)
+
+-- the rows of the loading lines by public numbers, the bus going from b to c: the code of a bit that is not told, or a public bit v and then
+-- its code
+abbrev bitShown : Layout → Bool → ℕ → ℕ → ℕ → ℕ → ℕ → List Row
+bitShown L false k v u b c = six k 1 1 (weight u) 0 0 (reading b c) ∷ []
+bitShown L true k v u b c = shows k v 0 u 0 0 (reading b c) ∷ codeBitShown L (suc k) c v
 
 -- the rows of a load; x is the Hamming weight of the register before
-unfoldable pub loadShown : Layout → Operand → ℕ → ℕ → State → List Row
-loadShown L a k x s = six k 0 x 0 0 0 ∷ bitShown L (isPublic (kindOf a)) (suc k) (argument Marked a s) (address a s)
+unfoldable pub loadShown : Layout → Operand → ℕ → ℕ → State → ℕ → List Row
+loadShown L a k x s b =
+    six k 0 x 0 0 0 (still b) ∷ bitShown L (isPublic (kindOf a)) (suc k) (argument Marked a s) (address a s) b (reach a (address a s) b)
 
 -- the bit that an argument of a marked line reads in the source, and its load in the image
 pub record Loaded (L : Layout) (r : List ℕ) (a : Operand) : Type 0 where
   pub bit : argument Marked a (zeros r) < 2
-  pub loads : {n : ℕ} (S : Scratch n) (k x y z : ℕ)
-      → exec (load n (coded L a)) k (held x y z (rails L r))
-      ≡ ran (loadEnd a k) (kept S (code L (argument Marked a (zeros r))) x y z (rails L r)) (loadShown L a k (weight (got S x y z)) (zeros r))
+  pub loads : {n : ℕ} (S : Scratch n) (k x y z b : ℕ)
+      → exec (load n (coded L a)) k (held x y z (rails L r)) b
+      ≡ ran (loadEnd a k) (kept S (code L (argument Marked a (zeros r))) x y z (rails L r)) (loadBus a (zeros r) b) (loadShown L a k (weight (got S x y z)) (zeros r) b)
 
 -- a literal is coded to a literal, and a place is left as it is
 pub coded-kind : (L : Layout) (a : Operand) → kindOf (coded L a) ≡ kindOf a
@@ -59,6 +69,16 @@ coded-kind L (Cell n) = refl
 coded-kind L (PublicCell b k) = refl
 coded-kind L (SensitiveCell b k) = refl
 coded-kind L (TableCell b k) = refl
+
+pub coded-address : (L : Layout) (a : Operand) → hasAddress (coded L a) ≡ hasAddress a
+unfolding coded hasAddress
+coded-address L Empty = refl
+coded-address L (Literal n) = refl
+coded-address L (Register n) = refl
+coded-address L (Cell n) = refl
+coded-address L (PublicCell b k) = refl
+coded-address L (SensitiveCell b k) = refl
+coded-address L (TableCell b k) = refl
 
 pub coded-public : (L : Layout) (a : Operand) → isPublic (kindOf a) ≡ true → coded L a ≡ a
 unfolding coded kindOf
@@ -86,15 +106,15 @@ module _ (L : Layout) (K : Known L) (r : List ℕ) (bits : BitState (zeros r)) w
 
   loaded-from : (a : Operand) → isPublic (kindOf a) ≡ false → value a (zeros r) < 2
       → Source (coded L a) (rails L r) (code L (value a (zeros r))) (address a (zeros r)) → Loaded L r a
-  unfolding argument meaning load codeBit loadShown ones
+  unfolding argument meaning load codeBit loadShown loadBus ones
   loaded-from a p h A =
       let v = value a (zeros r) in
       let q : isPublic (kindOf (coded L a)) ≡ false = ap isPublic (coded-kind L a) ∙ p in
       record {
         bit = rw p h;
-        loads = λ S k x y z.
-            rw (p, q) (charge-shown S (coded L a) k x y z (rails L r) (code L v) (address a (zeros r)) A
-            ∙ rw (code-weight L K v h, code-loaded L K v h));
+        loads = λ S k x y z b.
+            rw (p, q) (charge-shown S (coded L a) k x y z (rails L r) b (code L v) (address a (zeros r)) A
+            ∙ rw (code-weight L K v h, code-loaded L K v h, coded-address L a));
       }
 
   loaded-place : (a : Operand) → isPublic (kindOf a) ≡ false → SensitivePlace a → coded L a ≡ a → Loaded L r a
@@ -122,7 +142,7 @@ module _ (L : Layout) (K : Known L) (r : List ℕ) (bits : BitState (zeros r)) w
   -- ---- a public place
 
   loaded-public : (a : Operand) → isPublic (kindOf a) ≡ true → PublicOperand a → Loaded L r a
-  unfolding argument meaning load loadShown ones
+  unfolding argument meaning load loadShown loadBus ones
   loaded-public a p h =
       let v = value a (zeros r) % 2 in
       let low : v < 2 = omega arith in
@@ -133,21 +153,26 @@ module _ (L : Layout) (K : Known L) (r : List ℕ) (bits : BitState (zeros r)) w
       } in
       record {
         bit = rw p low;
-        loads = λ {n} S k x y z.
-            rw (coded-public L a p, p) (exec-then (precharged (Register n) a) (codeBit true n) k (held x y z (rails L r))
-            (charge-shown S a k x y z (rails L r) v (address a (zeros r)) A)
-            (code-bit-exec L S (suc (suc k)) x y z (rails L r) coder v low));
+        loads = λ {n} S k x y z b.
+            rw (coded-public L a p, p) (exec-then (precharged (Register n) a) (codeBit true n) k (held x y z (rails L r)) b
+            (charge-shown S a k x y z (rails L r) b v (address a (zeros r)) A)
+            (code-bit-exec L S (suc (suc k)) x y z (rails L r) (reach a (address a (zeros r)) b) coder v low));
       }
 
   pub loaded : (a : Operand) → MarkedArgument a → Loaded L r a
   loaded a (public-bit p h) = loaded-public a p h
   loaded a (sensitive-bit p h) = loaded-sensitive a p h
 
--- it shows the same in states that agree in the public places
-pub load-same : (L : Layout) (s t : State) → SamePublic s t → (a : Operand) → MarkedArgument a → (k x : ℕ) → loadShown L a k x s ≡ loadShown L a k x t
+-- it shows the same in states that agree in the public places, and leaves the bus the same
+pub load-same : (L : Layout) (s t : State) → SamePublic s t → (a : Operand) → MarkedArgument a → (k x b : ℕ) → loadShown L a k x s b ≡ loadShown L a k x t b
 unfolding loadShown argument meaning
-load-same L s t h a (public-bit p g) k x = rw (address-same s t h a (steady-public a g), value-same s t h a g)
-load-same L s t h a (sensitive-bit p g) k x = rw (p, address-same s t h a (steady-argument a g))
+load-same L s t h a (public-bit p g) k x b = rw (address-same s t h a (steady-public a g), value-same s t h a g)
+load-same L s t h a (sensitive-bit p g) k x b = rw (p, address-same s t h a (steady-argument a g))
+
+pub load-bus-same : (s t : State) → SamePublic s t → (a : Operand) → MarkedArgument a → (b : ℕ) → loadBus a s b ≡ loadBus a t b
+unfolding loadBus argument meaning
+load-bus-same s t h a (public-bit p g) b = rw (address-same s t h a (steady-public a g), value-same s t h a g)
+load-bus-same s t h a (sensitive-bit p g) b = rw (p, address-same s t h a (steady-argument a g))
 
 -- ---- how long it is
 

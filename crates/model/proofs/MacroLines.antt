@@ -49,7 +49,7 @@ module _ {P : Line → Type 0} (F : OfMacros P) (L : Layout) where
 
   fetch-lines : (t : ℕ) → Every P (fetch t)
   unfolding fetch
-  fetch-lines t = (F .moves _ _, (F .moves _ _, tt))
+  fetch-lines t = (F .moves _ _, (F .moves _ _, (F .moves _ _, tt)))
 
   flip-lines : Every P (flip L)
   unfolding flip

@@ -69,8 +69,9 @@ pub xor-lines : expand neighbours (markedLine Xor (Register 16) (Register 16) (R
     ∷ move (Register 2) (TableCell 2 240)
     ∷ markedLine And (Register 2) (Register 2) (Literal 3)
     ∷ markedLine Orr (Register 1) (Register 1) (Register 2)
-    ∷ move (Register 3) (Register 0)
+    ∷ move (Register 3) (TableCell 0 32)
     ∷ move (Register 3) (TableCell 1 32)
+    ∷ move (Register 2) (TableCell 0 32)
     ∷ move (Register 16) (Register 0)
     ∷ move (Register 16) (Register 3)
     ∷ []

@@ -10,29 +10,26 @@ use lib.ListN.{length, getD, take, drop, getElem?}
 use Rattle.model.specs.declared.Line.{Line}
 use Rattle.model.specs.Limits.{rowWidth}
 use Rattle.model.specs.Places.{State}
-use Rattle.model.specs.Step.{Row, row, next, after}
-use Rattle.model.specs.Run.{Ran, push, run}
+use Rattle.model.specs.Step.{Row, row, distances, next, after, busAfter}
+use Rattle.model.specs.Run.{Ran, ran, push, runOn}
 
-abbrev pub ran : ℕ → State → List Row → Ran
-ran k s rows = record { at = k; state = s; rows = rows }
+pub stopped : (p : List Line) (k : ℕ) (s : State) (b : ℕ) → getElem? p k ≡ none → (n : ℕ) → runOn p n k s b ≡ ran k s b []
+unfolding runOn
+stopped p k s b e zero = refl
+stopped p k s b e (suc n) = rw (e, runOn)
 
-pub stopped : (p : List Line) (k : ℕ) (s : State) → getElem? p k ≡ none → (n : ℕ) → run p n k s ≡ ran k s []
-unfolding run
-stopped p k s e zero = refl
-stopped p k s e (suc n) = rw (e, run)
+pub step-run : (p : List Line) (k : ℕ) (s : State) (b : ℕ) (l : Line) → getElem? p k ≡ some l → (n : ℕ)
+    → runOn p (suc n) k s b ≡ push (row l k s b) (runOn p n (next l k s) (after l s) (busAfter l s b))
+unfolding runOn
+step-run p k s b l e n = rw (e, runOn)
 
-pub step-run : (p : List Line) (k : ℕ) (s : State) (l : Line) → getElem? p k ≡ some l → (n : ℕ)
-    → run p (suc n) k s ≡ push (row l k s) (run p n (next l k s) (after l s))
-unfolding run
-step-run p k s l e n = rw (e, run)
+pub run-zero : (p : List Line) (k : ℕ) (s : State) (b : ℕ) → runOn p zero k s b ≡ ran k s b []
+unfolding runOn
+run-zero p k s b = refl
 
-pub run-zero : (p : List Line) (k : ℕ) (s : State) → run p zero k s ≡ ran k s []
-unfolding run
-run-zero p k s = refl
-
-pub row-length : (l : Line) (k : ℕ) (s : State) → length (row l k s) ≡ rowWidth
-unfolding row
-row-length l k s = refl
+pub row-length : (l : Line) (k : ℕ) (s : State) (b : ℕ) → length (row l k s b) ≡ rowWidth
+unfolding row distances
+row-length l k s b = refl
 
 -- the rows of a trace, one after another
 abbrev pub flat : List Row → List ℕ
@@ -40,76 +37,95 @@ flat = flatMap (λ (r : Row). r)
 
 -- a run, and what a second one adds from where it stands
 abbrev pub joinRuns : Ran → Ran → Ran
-joinRuns x y = ran (y .at) (y .state) (x .rows ++ y .rows)
+joinRuns x y = ran (y .at) (y .state) (y .bus) (x .rows ++ y .rows)
 
 abbrev pub onward : List Line → ℕ → Ran → Ran
-onward p m x = joinRuns x (run p m (x .at) (x .state))
+onward p m x = joinRuns x (runOn p m (x .at) (x .state) (x .bus))
 
-pub run-add : (p : List Line) (n m k : ℕ) (s : State) → run p (n + m) k s ≡ onward p m (run p n k s)
-run-add p zero m k s = rw (zero-add m, run-zero p k s)
-run-add p (suc n) m k s = go (λ k s. run-add p n m k s) (getElem? p k) refl
+pub run-add : (p : List Line) (n m k : ℕ) (s : State) (b : ℕ) → runOn p (n + m) k s b ≡ onward p m (runOn p n k s b)
+run-add p zero m k s b = rw (zero-add m, run-zero p k s b)
+run-add p (suc n) m k s b = go (λ k s b. run-add p n m k s b) (getElem? p k) refl
   where
-    go : ((k : ℕ) (s : State) → run p (n + m) k s ≡ onward p m (run p n k s))
-        → (o : Option Line) → getElem? p k ≡ o → run p (suc n + m) k s ≡ onward p m (run p (suc n) k s)
-    go ih none e = rw (stopped p k s e (suc n + m), stopped p k s e (suc n), stopped p k s e m)
-    go ih (some l) e = rw (suc-add n m, step-run p k s l e (n + m), step-run p k s l e n, ih (next l k s) (after l s))
+    go : ((k : ℕ) (s : State) (b : ℕ) → runOn p (n + m) k s b ≡ onward p m (runOn p n k s b))
+        → (o : Option Line) → getElem? p k ≡ o → runOn p (suc n + m) k s b ≡ onward p m (runOn p (suc n) k s b)
+    go ih none e = rw (stopped p k s b e (suc n + m), stopped p k s b e (suc n), stopped p k s b e m)
+    go ih (some l) e = rw (suc-add n m, step-run p k s b l e (n + m), step-run p k s b l e n, ih (next l k s) (after l s) (busAfter l s b))
+
+-- what a run does does not turn on the bus, nor how many rows it has
+pub record BusApart (x y : Ran) : Type 0 where
+  pub at : x .at ≡ y .at
+  pub state : x .state ≡ y .state
+  pub count : length (x .rows) ≡ length (y .rows)
+
+pub bus-apart : (p : List Line) (n k : ℕ) (s : State) (b c : ℕ) → BusApart (runOn p n k s b) (runOn p n k s c)
+bus-apart p zero k s b c = rw (run-zero p k s b, run-zero p k s c) (record { at = refl; state = refl; count = refl })
+bus-apart p (suc n) k s b c = go (λ k s b c. bus-apart p n k s b c) (getElem? p k) refl
+  where
+    go : ((k : ℕ) (s : State) (b c : ℕ) → BusApart (runOn p n k s b) (runOn p n k s c))
+        → (o : Option Line) → getElem? p k ≡ o → BusApart (runOn p (suc n) k s b) (runOn p (suc n) k s c)
+    go ih none e = rw (stopped p k s b e (suc n), stopped p k s c e (suc n)) (record { at = refl; state = refl; count = refl })
+    go ih (some l) e =
+        let I = ih (next l k s) (after l s) (busAfter l s b) (busAfter l s c) in
+        rw (step-run p k s b l e n, step-run p k s c l e n) (record { at = I .at; state = I .state; count = ap suc (I .count) })
 
 -- a run with a smaller budget is the prefix of a longer one
-pub rows-cut : (p : List Line) (n m k : ℕ) (s : State) → run p n k s .rows ≡ take n (run p (n + m) k s .rows)
-rows-cut p zero m k s = rw (run-zero p k s)
-rows-cut p (suc n) m k s = go (λ k s. rows-cut p n m k s) (getElem? p k) refl
+pub rows-cut : (p : List Line) (n m k : ℕ) (s : State) (b : ℕ) → runOn p n k s b .rows ≡ take n (runOn p (n + m) k s b .rows)
+rows-cut p zero m k s b = rw (run-zero p k s b)
+rows-cut p (suc n) m k s b = go (λ k s b. rows-cut p n m k s b) (getElem? p k) refl
   where
-    go : ((k : ℕ) (s : State) → run p n k s .rows ≡ take n (run p (n + m) k s .rows))
-        → (o : Option Line) → getElem? p k ≡ o → run p (suc n) k s .rows ≡ take (suc n) (run p (suc n + m) k s .rows)
-    go ih none e = rw (stopped p k s e (suc n + m), stopped p k s e (suc n))
-    go ih (some l) e = rw (suc-add n m, step-run p k s l e (n + m), step-run p k s l e n) (ap (λ (r : List Row). row l k s ∷ r) (ih (next l k s) (after l s)))
+    go : ((k : ℕ) (s : State) (b : ℕ) → runOn p n k s b .rows ≡ take n (runOn p (n + m) k s b .rows))
+        → (o : Option Line) → getElem? p k ≡ o → runOn p (suc n) k s b .rows ≡ take (suc n) (runOn p (suc n + m) k s b .rows)
+    go ih none e = rw (stopped p k s b e (suc n + m), stopped p k s b e (suc n))
+    go ih (some l) e =
+        rw (suc-add n m, step-run p k s b l e (n + m), step-run p k s b l e n) (ap (λ (r : List Row). row l k s b ∷ r) (ih (next l k s) (after l s) (busAfter l s b)))
 
 -- where a run stands: at the line of the next row, or, where there is none, where the longer run stands
 abbrev pub headLine : List Row → ℕ → ℕ
 headLine [] k = k
 headLine (r ∷ rs) k = getD r 0 0
 
-head-run : (p : List Line) (m k : ℕ) (s : State) → k ≡ headLine (run p m k s .rows) (run p m k s .at)
+head-run : (p : List Line) (m k : ℕ) (s : State) (b : ℕ) → k ≡ headLine (runOn p m k s b .rows) (runOn p m k s b .at)
 unfolding row
-head-run p zero k s = rw (run-zero p k s)
-head-run p (suc m) k s = go (getElem? p k) refl
+head-run p zero k s b = rw (run-zero p k s b)
+head-run p (suc m) k s b = go (getElem? p k) refl
   where
-    go : (o : Option Line) → getElem? p k ≡ o → k ≡ headLine (run p (suc m) k s .rows) (run p (suc m) k s .at)
-    go none e = rw (stopped p k s e (suc m))
-    go (some l) e = rw (step-run p k s l e m)
+    go : (o : Option Line) → getElem? p k ≡ o → k ≡ headLine (runOn p (suc m) k s b .rows) (runOn p (suc m) k s b .at)
+    go none e = rw (stopped p k s b e (suc m))
+    go (some l) e = rw (step-run p k s b l e m)
 
-pub at-cut : (p : List Line) (n m k : ℕ) (s : State) → run p n k s .at ≡ headLine (drop n (run p (n + m) k s .rows)) (run p (n + m) k s .at)
-at-cut p zero m k s = rw (zero-add m, run-zero p k s) (head-run p m k s)
-at-cut p (suc n) m k s = go (λ k s. at-cut p n m k s) (getElem? p k) refl
+pub at-cut : (p : List Line) (n m k : ℕ) (s : State) (b : ℕ) → runOn p n k s b .at ≡ headLine (drop n (runOn p (n + m) k s b .rows)) (runOn p (n + m) k s b .at)
+at-cut p zero m k s b = rw (zero-add m, run-zero p k s b) (head-run p m k s b)
+at-cut p (suc n) m k s b = go (λ k s b. at-cut p n m k s b) (getElem? p k) refl
   where
-    go : ((k : ℕ) (s : State) → run p n k s .at ≡ headLine (drop n (run p (n + m) k s .rows)) (run p (n + m) k s .at))
+    go : ((k : ℕ) (s : State) (b : ℕ) → runOn p n k s b .at ≡ headLine (drop n (runOn p (n + m) k s b .rows)) (runOn p (n + m) k s b .at))
         → (o : Option Line) → getElem? p k ≡ o
-        → run p (suc n) k s .at ≡ headLine (drop (suc n) (run p (suc n + m) k s .rows)) (run p (suc n + m) k s .at)
-    go ih none e = rw (stopped p k s e (suc n + m), stopped p k s e (suc n))
-    go ih (some l) e = rw (suc-add n m, step-run p k s l e (n + m), step-run p k s l e n) (ih (next l k s) (after l s))
+        → runOn p (suc n) k s b .at ≡ headLine (drop (suc n) (runOn p (suc n + m) k s b .rows)) (runOn p (suc n + m) k s b .at)
+    go ih none e = rw (stopped p k s b e (suc n + m), stopped p k s b e (suc n))
+    go ih (some l) e = rw (suc-add n m, step-run p k s b l e (n + m), step-run p k s b l e n) (ih (next l k s) (after l s) (busAfter l s b))
 
 -- what of a run is seen: its rows and where it stands
 abbrev pub Seen : Ran → Ran → Type 0
 Seen x y = (x .rows ≡ y .rows) × (x .at ≡ y .at)
 
 -- what two longer runs show alike, the shorter ones show alike
-pub cut : (p : List Line) (n m k : ℕ) (s t : State) → Seen (run p (n + m) k s) (run p (n + m) k t) → Seen (run p n k s) (run p n k t)
-cut p n m k s t h = (
-  rows-cut p n m k s ∙ ap (take n) (h .0) ∙ sym (rows-cut p n m k t),
-  at-cut p n m k s ∙ ap₂ (λ (r : List Row) (a : ℕ). headLine (drop n r) a) (h .0) (h .1) ∙ sym (at-cut p n m k t),
+pub cut : (p : List Line) (n m k : ℕ) (s t : State) (b : ℕ) → Seen (runOn p (n + m) k s b) (runOn p (n + m) k t b) → Seen (runOn p n k s b) (runOn p n k t b)
+cut p n m k s t b h = (
+  rows-cut p n m k s b ∙ ap (take n) (h .0) ∙ sym (rows-cut p n m k t b),
+  at-cut p n m k s b ∙ ap₂ (λ (r : List Row) (a : ℕ). headLine (drop n r) a) (h .0) (h .1) ∙ sym (at-cut p n m k t b),
 )
 
 -- past the end of the program nothing is added
-run-past : (p : List Line) (n m k : ℕ) (s : State) → getElem? p (run p n k s .at) ≡ none
-    → run p (n + m) k s ≡ joinRuns (run p n k s) (ran (run p n k s .at) (run p n k s .state) [])
-run-past p n m k s e = run-add p n m k s ∙ ap (joinRuns (run p n k s)) (stopped p (run p n k s .at) (run p n k s .state) e m)
+run-past : (p : List Line) (n m k : ℕ) (s : State) (b : ℕ) → getElem? p (runOn p n k s b .at) ≡ none
+    → runOn p (n + m) k s b ≡ joinRuns (runOn p n k s b) (ran (runOn p n k s b .at) (runOn p n k s b .state) (runOn p n k s b .bus) [])
+run-past p n m k s b e =
+    run-add p n m k s b ∙ ap (joinRuns (runOn p n k s b)) (stopped p (runOn p n k s b .at) (runOn p n k s b .state) (runOn p n k s b .bus) e m)
 
-pub seen-past : (p : List Line) (n m k : ℕ) (s t : State) → Seen (run p n k s) (run p n k t) → getElem? p (run p n k s .at) ≡ none
-    → Seen (run p (n + m) k s) (run p (n + m) k t)
-seen-past p n m k s t h e =
-    let e′ : getElem? p (run p n k t .at) ≡ none = ap (getElem? p) (sym (h .1)) ∙ e in (
-      ap (λ (x : Ran). x .rows) (run-past p n m k s e) ∙ ap (λ (r : List Row). r ++ []) (h .0) ∙ sym (ap (λ (x : Ran). x .rows) (run-past p n m k t e′)),
-      ap (λ (x : Ran). x .at) (run-past p n m k s e) ∙ h .1 ∙ sym (ap (λ (x : Ran). x .at) (run-past p n m k t e′)),
+pub seen-past : (p : List Line) (n m k : ℕ) (s t : State) (b : ℕ) → Seen (runOn p n k s b) (runOn p n k t b) → getElem? p (runOn p n k s b .at) ≡ none
+    → Seen (runOn p (n + m) k s b) (runOn p (n + m) k t b)
+seen-past p n m k s t b h e =
+    let e′ : getElem? p (runOn p n k t b .at) ≡ none = ap (getElem? p) (sym (h .1)) ∙ e in (
+      ap (λ (x : Ran). x .rows) (run-past p n m k s b e) ∙ ap (λ (r : List Row). r ++ []) (h .0) ∙ sym (ap (λ (x : Ran). x .rows) (run-past p n m k t b e′)),
+      ap (λ (x : Ran). x .at) (run-past p n m k s b e) ∙ h .1 ∙ sym (ap (λ (x : Ran). x .at) (run-past p n m k t b e′)),
     )
 
 fetch-none : (p : List Line) (k : ℕ) → getElem? p k ≡ none → k < length p → ⊥
@@ -118,11 +134,11 @@ fetch-none (l ∷ p) zero e h = let z : _≡_ {A = ℕ} 0 1 = cc in omega arith
 fetch-none (l ∷ p) (suc k) e h = fetch-none p k e (le-of-suc-le-suc h)
 
 -- spent, the counter below the line count, means that exactly the budget's number of steps was done
-pub spent-all : (p : List Line) (n k : ℕ) (s : State) → run p n k s .at < length p → length (run p n k s .rows) ≡ n
-spent-all p zero k s h = rw (run-zero p k s)
-spent-all p (suc n) k s h = go (λ k s h. spent-all p n k s h) (getElem? p k) refl
+pub spent-all : (p : List Line) (n k : ℕ) (s : State) (b : ℕ) → runOn p n k s b .at < length p → length (runOn p n k s b .rows) ≡ n
+spent-all p zero k s b h = rw (run-zero p k s b)
+spent-all p (suc n) k s b h = go (λ k s b h. spent-all p n k s b h) (getElem? p k) refl
   where
-    go : ((k : ℕ) (s : State) → run p n k s .at < length p → length (run p n k s .rows) ≡ n) → (o : Option Line) → getElem? p k ≡ o
-        → length (run p (suc n) k s .rows) ≡ suc n
-    go ih none e = absurd (fetch-none p k e (rw (stopped p k s e (suc n)) at h))
-    go ih (some l) e = rw (step-run p k s l e n) (ap suc (ih (next l k s) (after l s) (rw (step-run p k s l e n) at h)))
+    go : ((k : ℕ) (s : State) (b : ℕ) → runOn p n k s b .at < length p → length (runOn p n k s b .rows) ≡ n) → (o : Option Line) → getElem? p k ≡ o
+        → length (runOn p (suc n) k s b .rows) ≡ suc n
+    go ih none e = absurd (fetch-none p k e (rw (stopped p k s b e (suc n)) at h))
+    go ih (some l) e = rw (step-run p k s b l e n) (ap suc (ih (next l k s) (after l s) (busAfter l s b) (rw (step-run p k s b l e n) at h)))

@@ -69,7 +69,7 @@ entries-apart = tt
 
 -- ---- lines in them: literals are coded; the literal 1 of a public bit and of a shift is not
 
--- `s,xor,@200,#1,r17,` at position 2, spaced: one shift, 12 lines
+-- `s,xor,@200,#1,r17,` at position 2, spaced: one shift, 13 lines
 pub spaced-lines : expand spaced₂ (markedLine Xor (Cell 200) (Literal 1) (Register 17) ∷ []) ≡
     move (Register 1) (Register 0)
     ∷ move (Register 1) (Literal 4)
@@ -79,8 +79,9 @@ pub spaced-lines : expand spaced₂ (markedLine Xor (Cell 200) (Literal 1) (Regi
     ∷ move (Register 2) (Register 17)
     ∷ markedLine And (Register 2) (Register 2) (Literal 20)
     ∷ markedLine Orr (Register 1) (Register 1) (Register 2)
-    ∷ move (Register 3) (Register 0)
+    ∷ move (Register 3) (TableCell 0 128)
     ∷ move (Register 3) (TableCell 1 128)
+    ∷ move (Register 2) (TableCell 0 128)
     ∷ move (Cell 200) (Register 0)
     ∷ move (Cell 200) (Register 3)
     ∷ []
@@ -100,8 +101,9 @@ pub public-lines : expand near₁ (markedLine Orr (Register 16) (Register 16) (P
     ∷ move (Register 2) (TableCell 2 240)
     ∷ markedLine And (Register 2) (Register 2) (Literal 6)
     ∷ markedLine Orr (Register 1) (Register 1) (Register 2)
-    ∷ move (Register 3) (Register 0)
+    ∷ move (Register 3) (TableCell 0 32)
     ∷ move (Register 3) (TableCell 1 32)
+    ∷ move (Register 2) (TableCell 0 32)
     ∷ move (Register 16) (Register 0)
     ∷ move (Register 16) (Register 3)
     ∷ []

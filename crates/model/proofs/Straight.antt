@@ -7,18 +7,18 @@ use native.Mathlib.Nat.{add-zero, suc-add, add-suc}
 use lib.ListN.{length, drop, getElem?}
 use Rattle.model.specs.declared.Line.{Line}
 use Rattle.model.specs.Places.{State}
-use Rattle.model.specs.Step.{Row, row, next, after}
-use Rattle.model.specs.Run.{Ran, push, run}
+use Rattle.model.specs.Step.{Row, row, next, after, busAfter}
+use Rattle.model.specs.Run.{Ran, ran, push, runOn}
 use Rattle.model.specs.Lines.{Every}
-use Rattle.model.proofs.Runs.{ran, joinRuns, step-run, run-zero}
+use Rattle.model.proofs.Runs.{joinRuns, step-run, run-zero}
 
 -- straight lines go on to the next line, whatever the state
 abbrev pub Straight : List Line → Type 0
 Straight = Every (λ l. (k : ℕ) (s : State) → next l k s ≡ suc k)
 
-unfoldable pub exec : List Line → ℕ → State → Ran
-exec [] k s = ran k s []
-exec (l ∷ ls) k s = push (row l k s) (exec ls (suc k) (after l s))
+unfoldable pub exec : List Line → ℕ → State → ℕ → Ran
+exec [] k s b = ran k s b []
+exec (l ∷ ls) k s b = push (row l k s b) (exec ls (suc k) (after l s) (busAfter l s b))
 
 pub drop-head : (p : List Line) (k : ℕ) (l : Line) (r : List Line) → drop k p ≡ l ∷ r → getElem? p k ≡ some l
 drop-head [] zero l r e = cc
@@ -33,31 +33,32 @@ drop-tail (x ∷ p) zero l r e = cc
 drop-tail (x ∷ p) (suc k) l r e = drop-tail p k l r e
 
 -- straight lines that stand at k in a program are done by a run from there
-pub run-straight : (p ls r : List Line) (k : ℕ) (s : State) → drop k p ≡ ls ++ r → Straight ls → run p (length ls) k s ≡ exec ls k s
+pub run-straight : (p ls r : List Line) (k : ℕ) (s : State) (b : ℕ) → drop k p ≡ ls ++ r → Straight ls → runOn p (length ls) k s b ≡ exec ls k s b
 unfolding exec
-run-straight p [] r k s e h = run-zero p k s
-run-straight p (l ∷ ls) r k s e h =
-    step-run p k s l (drop-head p k l (ls ++ r) e) (length ls)
-    ∙ ap (λ (n : ℕ). push (row l k s) (run p (length ls) n (after l s))) (h .0 k s)
-    ∙ ap (push (row l k s)) (run-straight p ls r (suc k) (after l s) (drop-tail p k l (ls ++ r) e) (h .1))
+run-straight p [] r k s b e h = run-zero p k s b
+run-straight p (l ∷ ls) r k s b e h =
+    step-run p k s b l (drop-head p k l (ls ++ r) e) (length ls)
+    ∙ ap (λ (n : ℕ). push (row l k s b) (runOn p (length ls) n (after l s) (busAfter l s b))) (h .0 k s)
+    ∙ ap (push (row l k s b)) (run-straight p ls r (suc k) (after l s) (busAfter l s b) (drop-tail p k l (ls ++ r) e) (h .1))
 
-exec-append : (xs ys : List Line) (k : ℕ) (s : State) → exec (xs ++ ys) k s ≡ joinRuns (exec xs k s) (exec ys (exec xs k s .at) (exec xs k s .state))
+exec-append : (xs ys : List Line) (k : ℕ) (s : State) (b : ℕ)
+    → exec (xs ++ ys) k s b ≡ joinRuns (exec xs k s b) (exec ys (exec xs k s b .at) (exec xs k s b .state) (exec xs k s b .bus))
 unfolding exec
-exec-append [] ys k s = refl
-exec-append (l ∷ xs) ys k s = ap (push (row l k s)) (exec-append xs ys (suc k) (after l s))
+exec-append [] ys k s b = refl
+exec-append (l ∷ xs) ys k s b = ap (push (row l k s b)) (exec-append xs ys (suc k) (after l s) (busAfter l s b))
 
 -- a piece, and then another from where it ends
-pub exec-then : (xs ys : List Line) (k : ℕ) (s : State) {k₁ : ℕ} {s₁ : State} {rs : List Row} {k₂ : ℕ} {s₂ : State} {qs : List Row}
-    → exec xs k s ≡ ran k₁ s₁ rs → exec ys k₁ s₁ ≡ ran k₂ s₂ qs → exec (xs ++ ys) k s ≡ ran k₂ s₂ (rs ++ qs)
-exec-then xs ys k s {k₁} {s₁} {rs} e f =
-    exec-append xs ys k s ∙ ap (λ (g : Ran). joinRuns g (exec ys (g .at) (g .state))) e ∙ ap (joinRuns (ran k₁ s₁ rs)) f
+pub exec-then : (xs ys : List Line) (k : ℕ) (s : State) (b : ℕ) {k₁ : ℕ} {s₁ : State} {b₁ : ℕ} {rs : List Row} {k₂ : ℕ} {s₂ : State} {b₂ : ℕ} {qs : List Row}
+    → exec xs k s b ≡ ran k₁ s₁ b₁ rs → exec ys k₁ s₁ b₁ ≡ ran k₂ s₂ b₂ qs → exec (xs ++ ys) k s b ≡ ran k₂ s₂ b₂ (rs ++ qs)
+exec-then xs ys k s b {k₁} {s₁} {b₁} {rs} e f =
+    exec-append xs ys k s b ∙ ap (λ (g : Ran). joinRuns g (exec ys (g .at) (g .state) (g .bus))) e ∙ ap (joinRuns (ran k₁ s₁ b₁ rs)) f
 
-pub exec-at : (ls : List Line) (k : ℕ) (s : State) → exec ls k s .at ≡ k + length ls
+pub exec-at : (ls : List Line) (k : ℕ) (s : State) (b : ℕ) → exec ls k s b .at ≡ k + length ls
 unfolding exec
-exec-at [] k s = sym (add-zero k)
-exec-at (l ∷ ls) k s = exec-at ls (suc k) (after l s) ∙ suc-add k (length ls) ∙ sym (add-suc k (length ls))
+exec-at [] k s b = sym (add-zero k)
+exec-at (l ∷ ls) k s b = exec-at ls (suc k) (after l s) (busAfter l s b) ∙ suc-add k (length ls) ∙ sym (add-suc k (length ls))
 
-pub exec-rows : (ls : List Line) (k : ℕ) (s : State) → length (exec ls k s .rows) ≡ length ls
+pub exec-rows : (ls : List Line) (k : ℕ) (s : State) (b : ℕ) → length (exec ls k s b .rows) ≡ length ls
 unfolding exec
-exec-rows [] k s = refl
-exec-rows (l ∷ ls) k s = ap suc (exec-rows ls (suc k) (after l s))
+exec-rows [] k s b = refl
+exec-rows (l ∷ ls) k s b = ap suc (exec-rows ls (suc k) (after l s) (busAfter l s b))

@@ -15,7 +15,7 @@ use Rattle.model.specs.declared.Operand.the-variants.{Empty, Literal, Re
 use Rattle.model.specs.declared.Target.{Target}
 use Rattle.model.specs.declared.Kind.the-variants.{Public}
 use Rattle.model.specs.Places.{State, kind, place, value}
-use Rattle.model.specs.Step.{weight, alu, taken, targetLine, result, next, after, row}
+use Rattle.model.specs.Step.{weight, alu, taken, targetLine, result, next, after, onBus, busAfter, distances, row}
 use Rattle.model.specs.Images.{BitState, SamePublic}
 use Rattle.model.proofs.PlaceLaws.{bits-set, same-both}
 use Rattle.model.proofs.Operands.{PublicOperand, steady-public, place-same, address-same, value-same, Of, public-register-of, public-cell-of}
@@ -40,10 +40,15 @@ module _ (s t : State) (ls : length s ≡ 544) (lt : length t ≡ 544) (h : Same
   unfolding result
   result-same op g = ap₂ (alu Unmarked op) (value-same s t h a (P .first)) (value-same s t h b (P .second))
 
-  pub row-same : (op : Opcode) (g : Target) (k : ℕ) → row (mk Unmarked op d a b g) k s ≡ row (mk Unmarked op d a b g) k t
-  unfolding row
-  row-same op g k =
+  pub row-same : (op : Opcode) (g : Target) (k β : ℕ) → row (mk Unmarked op d a b g) k s β ≡ row (mk Unmarked op d a b g) k t β
+  unfolding row distances onBus
+  row-same op g k β =
       rw (result-same op g, old-same d (P .destination), address-same s t h a (steady-public a (P .first)), address-same s t h b (steady-public b (P .second)), address-same s t h d (steady-public d (P .destination)))
+
+  pub bus-same : (op : Opcode) (g : Target) (β : ℕ) → busAfter (mk Unmarked op d a b g) s β ≡ busAfter (mk Unmarked op d a b g) t β
+  unfolding busAfter onBus
+  bus-same op g β =
+      rw (address-same s t h a (steady-public a (P .first)), address-same s t h b (steady-public b (P .second)), address-same s t h d (steady-public d (P .destination)))
 
   pub next-same : (op : Opcode) (g : Target) (k : ℕ) → next (mk Unmarked op d a b g) k s ≡ next (mk Unmarked op d a b g) k t
   unfolding next

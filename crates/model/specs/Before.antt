@@ -1,5 +1,6 @@
 -- Request 03, 'Programs accepted before expand as before': the macros, the expansion and the acceptance of document 01, as they were before a
--- public bit could stand in a marked line, and the claim. Assumes nothing.
+-- public bit could stand in a marked line, and the claim. Request 07 changes two lines of the table macro, with or without public bits, so the
+-- macro stands here with them; those of not and mov are document 01's. Assumes nothing.
 use mathlib.Core.Path.{_≡_}
 use mathlib.Core.Bool.{Bool, not, _&&_, _||_}
 use mathlib.Core.List.{List, [], _∷_, flatMap}
@@ -24,7 +25,7 @@ use Rattle.model.specs.Expansion.{coded, markedLine, move, retarget, exp
 
 -- ---- the macros of document 01, line for line
 
--- and, orr, xor, 13 lines
+-- and, orr, xor, 14 lines, r3's precharge and the line after the lookup as request 07 has them
 unfoldable pub lookupBefore : ℕ → Operand → Operand → Operand → List Line
 lookupBefore t d a b =
     move (Register 1) (Register 0)
@@ -36,8 +37,9 @@ lookupBefore t d a b =
     ∷ move (Register 2) b
     ∷ markedLine And (Register 2) (Register 2) (Literal 3)
     ∷ markedLine Orr (Register 1) (Register 1) (Register 2)
-    ∷ move (Register 3) (Register 0)
+    ∷ move (Register 3) (TableCell 0 t)
     ∷ move (Register 3) (TableCell 1 t)
+    ∷ move (Register 2) (TableCell 0 t)
     ∷ move d (Register 0)
     ∷ move d (Register 3)
     ∷ []

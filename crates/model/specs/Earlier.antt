@@ -1,5 +1,6 @@
 -- Request 04, 'neighbours at position 0, as the two programs print, give the earlier bytes': the code, the table page, the images and the
--- macros as they stood before a layout could be chosen, in their numbers, and the claim. Assumes nothing.
+-- macros as they stood before a layout could be chosen, in their numbers, and the claim. The two lines that request 07 changes in the table
+-- macro of every layout stand in this one too. Assumes nothing.
 use mathlib.Core.Path.{_≡_}
 use mathlib.Core.Bool.{Bool, true, false, cond, _||_}
 use mathlib.Core.List.{List, [], _∷_, _++_, flatMap}
@@ -75,7 +76,7 @@ unfoldable pub loadEarlier : ℕ → Operand → List Line
 unfolding bitEarlier kindOf
 loadEarlier n a = move (Register n) (Register 0) ∷ move (Register n) a ∷ bitEarlier (isPublic (kindOf a)) n
 
--- and, orr, xor
+-- and, orr, xor, r3's precharge and the line after the lookup as request 07 has them
 unfoldable pub lookupEarlier : ℕ → Operand → Operand → Operand → List Line
 unfolding loadEarlier
 lookupEarlier t d a b =
@@ -86,8 +87,9 @@ lookupEarlier t d a b =
     ∷ loadEarlier 2 b
     ++ (markedLine And (Register 2) (Register 2) (Literal 3)
     ∷ markedLine Orr (Register 1) (Register 1) (Register 2)
-    ∷ move (Register 3) (Register 0)
+    ∷ move (Register 3) (TableCell 0 t)
     ∷ move (Register 3) (TableCell 1 t)
+    ∷ move (Register 2) (TableCell 0 t)
     ∷ move d (Register 0)
     ∷ move d (Register 3)
     ∷ []))

@@ -73,9 +73,14 @@ combine L =
     ∷ markedLine Orr (Register 1) (Register 1) (Register 2)
     ∷ []
 
--- r3 precharged, and loaded from the table that begins at t
+-- r3 precharged and loaded from the table that begins at t, and the bus brought back to the table's start (request 07): r0 is 0, and the
+-- entry there is 0, so the first of the lines clears r3 and the last r2
 unfoldable pub fetch : ℕ → List Line
-fetch t = precharged (Register 3) (TableCell 1 t)
+fetch t =
+    move (Register 3) (TableCell 0 t)
+    ∷ move (Register 3) (TableCell 1 t)
+    ∷ move (Register 2) (TableCell 0 t)
+    ∷ []
 
 -- both bits of the code flipped
 unfoldable pub flip : Layout → List Line

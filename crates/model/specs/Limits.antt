@@ -12,7 +12,7 @@ lineWidth = 6
 
 -- the numbers of a trace row
 abbrev pub rowWidth : ℕ
-rowWidth = 6
+rowWidth = 9
 
 -- the most lines of a text or a stored program, and the greatest target
 abbrev pub maxLines : ℕ
@@ -24,7 +24,7 @@ maxAccepted = 1024
 
 -- the most lines that one line expands to
 abbrev pub longest : ℕ
-longest = 17
+longest = 18
 
 -- the first bytes of a line among which its newline must be
 abbrev pub lineReach : ℕ

@@ -56,6 +56,16 @@ address (PublicCell r k) s = (getD s r 0 + k) % 128
 address (SensitiveCell r k) s = 128 + (getD s r 0 + k) % 128
 address (TableCell r k) s = 256 + (getD s r 0 + k) % 256
 
+-- whether there is one: a cell that is named, or reached through a base
+unfoldable pub hasAddress : Operand → Bool
+hasAddress Empty = false
+hasAddress (Literal n) = false
+hasAddress (Register n) = false
+hasAddress (Cell n) = true
+hasAddress (PublicCell r k) = true
+hasAddress (SensitiveCell r k) = true
+hasAddress (TableCell r k) = true
+
 -- the place that an operand names. An empty field and a literal name none: theirs is past the state, where 0 is read and nothing written
 unfoldable pub place : Operand → State → ℕ
 place Empty s = stateSize

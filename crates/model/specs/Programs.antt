@@ -10,7 +10,7 @@ use Rattle.model.specs.Limits.{stateSize, maxLines}
 use Rattle.model.specs.Answers.{Report, done, refused}
 use Rattle.model.specs.Stored.{lines}
 use Rattle.model.specs.Text.{newline, comma, decimal, spellLine, reading}
-use Rattle.model.specs.Run.{Ran, run}
+use Rattle.model.specs.Run.{Ran, runOn, run}
 use Rattle.model.specs.Layouts.{neighbours}
 use Rattle.model.specs.Images.{image}
 use Rattle.model.specs.Expansion.{expand}
@@ -71,5 +71,5 @@ expandPrints input = printed (λ p. flatMap spellLine (expand neighbours p)) inp
 
 -- the second runs that expansion from the image of the all-zero state, and prints the trace
 unfoldable pub tracePrints : List ℕ → List ℕ
-unfolding printed expand run image traceText
+unfolding printed expand runOn image traceText
 tracePrints input = printed (λ p. traceText (expand neighbours p) (run (expand neighbours p) traceBudget 0 (image neighbours (replicate stateSize 0)))) input

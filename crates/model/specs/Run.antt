@@ -11,21 +11,29 @@ use Rattle.model.specs.Limits.{stateSize, rowWidth}
 use Rattle.model.specs.Answers.{Report, halted, spent, refused, Outcome, outcome, unlessRefused, atFront}
 use Rattle.model.specs.Places.{State}
 use Rattle.model.specs.Stored.{lines, programCheck}
-use Rattle.model.specs.Step.{Row, next, after, row}
+use Rattle.model.specs.Step.{Row, next, after, busAfter, row}
 
--- where a run stands, its state, and the rows of the steps done, in their order
+-- where a run stands, its state, its bus, and the rows of the steps done, in their order
 pub record Ran : Type 0 where
   pub at : ℕ
   pub state : State
+  pub bus : ℕ
   pub rows : List Row
 
-abbrev pub push : Row → Ran → Ran
-push r x = record { at = x .at; state = x .state; rows = r ∷ x .rows }
+abbrev pub ran : ℕ → State → ℕ → List Row → Ran
+ran k s b rows = record { at = k; state = s; bus = b; rows = rows }
 
--- up to n steps from counter k and state s; the program ends where no line stands at the counter
-unfoldable pub run : List Line → ℕ → ℕ → State → Ran
-run p zero k s = record { at = k; state = s; rows = [] }
-run p (suc n) k s = elim (getElem? p k) [ none ↦ record { at = k; state = s; rows = [] } | some l ↦ push (row l k s) (run p n (next l k s) (after l s)) ]
+abbrev pub push : Row → Ran → Ran
+push r x = ran (x .at) (x .state) (x .bus) (r ∷ x .rows)
+
+-- up to n steps from counter k, state s and bus b; the program ends where no line stands at the counter
+unfoldable pub runOn : List Line → ℕ → ℕ → State → ℕ → Ran
+runOn p zero k s b = ran k s b []
+runOn p (suc n) k s b = elim (getElem? p k) [ none ↦ ran k s b [] | some l ↦ push (row l k s b) (runOn p n (next l k s) (after l s) (busAfter l s b)) ]
+
+-- the bus starts at 0 in every run
+abbrev pub run : List Line → ℕ → ℕ → State → Ran
+run p n k s = runOn p n k s 0
 
 -- halted where the counter reached the end, else spent; the steps done are the rows'
 unfoldable pub answer : List Line → Ran → Report
@@ -38,7 +46,7 @@ runLeaves p x trace = outcome (answer p x) (x .state ∷ atFront (flatMap (λ r.
 
 -- 7, 3 to 6, then 18, then 20 a trace store too short for the budget
 unfoldable pub runOutcome : List ℕ → ℕ → ℕ → State → List ℕ → Outcome
-unfolding programCheck run runLeaves
+unfolding programCheck runOn runLeaves
 runOutcome p start budget state trace =
     unlessRefused (programCheck p) (state ∷ trace ∷ [])
     (cond (eqb (length state) stateSize)

@@ -1,4 +1,4 @@
--- 'One step': what a line makes of a state, where it goes, and the row that it shows.
+-- 'One step': what a line makes of a state and of the bus, where it goes, and the row that it shows.
 -- Assumes nothing.
 use mathlib.Core.Bool.{Bool, true, false, not, cond}
 use mathlib.Core.List.{List, [], _∷_}
@@ -16,7 +16,7 @@ use Rattle.model.specs.declared.Operand.{Operand}
 use Rattle.model.specs.declared.Target.{Target}
 use Rattle.model.specs.declared.Target.the-variants.{Empty as NoTarget, Line as ToLine}
 use Rattle.model.specs.declared.Line.{Line}
-use Rattle.model.specs.Places.{State, isPublic, kindOf, place, address, value}
+use Rattle.model.specs.Places.{State, isPublic, kindOf, place, address, hasAddress, value}
 
 -- the Hamming weight: the ones in a number
 abbrev pub weight : ℕ → ℕ
@@ -102,12 +102,32 @@ unfoldable pub after : Line → State → State
 unfolding result place
 after l s = set s (place (l .destination) s) (result l s)
 
+-- the bus after an operand, b before it (request 07): it holds the last address, so an operand that has none leaves it
+unfoldable pub onBus : Operand → State → ℕ → ℕ
+unfolding hasAddress address
+onBus o s b = cond (hasAddress o) (address o s) b
+
+-- the bus afterwards: addresses go first argument, second, destination,
+unfoldable pub busAfter : Line → State → ℕ → ℕ
+unfolding onBus
+busAfter l s b = onBus (l .destination) s (onBus (l .second) s (onBus (l .first) s b))
+
+-- their distances in that order, each from the address before; where there is none the bus stays, so 0
+unfoldable pub distances : Line → State → ℕ → List ℕ
+unfolding onBus distance
+distances l s b =
+    let first = onBus (l .first) s b in
+    let second = onBus (l .second) s first in
+    let destination = onBus (l .destination) s second in
+    distance b first ∷ distance first second ∷ distance second destination ∷ []
+
 abbrev pub Row : Type 0
 Row = List ℕ
 
--- and the row: the line, the weight of the written value, its distance from the old value of the written place, and the weights of
--- the addresses of the first argument, the second and the destination; 0 where there is no write or no address
-unfoldable pub row : Line → ℕ → State → Row
-unfolding result place address distance
-row l k s = k ∷ weight (result l s) ∷ distance (getD s (place (l .destination) s) 0) (result l s)
-    ∷ weight (address (l .first) s) ∷ weight (address (l .second) s) ∷ weight (address (l .destination) s) ∷ []
+-- and the row: the line, the weight of the written value, its distance from the old value of the written place, the weights of the
+-- addresses of the first argument, the second and the destination, 0 where there is no write or no address, and the distances on the bus
+unfoldable pub row : Line → ℕ → State → ℕ → Row
+unfolding result place address distance distances
+row l k s b = k ∷ weight (result l s) ∷ distance (getD s (place (l .destination) s) 0) (result l s)
+    ∷ weight (address (l .first) s) ∷ weight (address (l .second) s) ∷ weight (address (l .destination) s)
+    ∷ distances l s b

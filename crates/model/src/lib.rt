@@ -5,7 +5,7 @@
 // lines of a program and of an accepted one, the most lines that one line expands to.
 pub const LINE_WIDTH: usize = 6;
 
-pub const ROW_WIDTH: usize = 6;
+pub const ROW_WIDTH: usize = 9;
 
 pub const STATE_SIZE: usize = 544;
 
@@ -13,7 +13,7 @@ pub const MAX_LINES: usize = 32768;
 
 pub const MAX_ACCEPTED: usize = 1024;
 
-pub const LONGEST: usize = 17;
+pub const LONGEST: usize = 18;
 
 // Whether a line handles key bits: u is Unmarked, s is Marked.
 pub enum Mark {

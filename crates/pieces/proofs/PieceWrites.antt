@@ -32,10 +32,6 @@ module _ {out o : List ℕ} {at k : ℕ} where
   unfolding writeBack
   write-back-wrote n d g w = rw (← register-number n g) w
 
-  pub fetch-wrote : (t : ℕ) (x : Operand) → x ≡ TableCell 1 t → Wrote out o at k (precharged (operandOf (registers + 3)) x) → Wrote out o at k (fetch t)
-  unfolding fetch operandOf
-  fetch-wrote t x e w = rw (← e) w
-
   pub flip-wrote : (L : Layout) (x : Operand) → x ≡ Literal (L .mask) → Wrote out o at k (markedLine Xor (operandOf (registers + 1)) (operandOf (registers + 1)) x ∷ []) → Wrote out o at k (flip L)
   unfolding flip operandOf
   flip-wrote L x e w = rw (← e) w
@@ -55,6 +51,11 @@ module _ {out o o′ : List ℕ} {at k m : ℕ} where
       → Wrote o o′ k m (codeBit true n) → Wrote out o′ at m (load n a)
   unfolding load
   load-bit-wrote n a g e w v = let u : Wrote out o at k (precharged (Register n) a) = rw (← register-number n g) w in rw e (wrote-then u v)
+
+  pub fetch-wrote : {o″ : List ℕ} {l : ℕ} (t : ℕ) (x y : Operand) → x ≡ TableCell 0 t → y ≡ TableCell 1 t → Wrote out o at k (move (operandOf (registers + 3)) x ∷ [])
+      → Wrote o o′ k m (move (operandOf (registers + 3)) y ∷ []) → Wrote o′ o″ m l (move (operandOf (registers + 2)) x ∷ []) → Wrote out o″ at l (fetch t)
+  unfolding fetch operandOf
+  fetch-wrote t x y e f w v u = rw (← e, ← f) (wrote-then w (wrote-then v u))
 
   module _ (L : Layout) (x : Operand) (e : x ≡ Literal (L .mask)) where
     pub combine-wrote : Wrote out o at k (markedLine And (operandOf (registers + 2)) (operandOf (registers + 2)) x ∷ [])

@@ -155,12 +155,15 @@ fn put_combine(out: &mut [u16], at: usize, layout: Layout) -> usize
     put_marked(out, masked, Opcode::Orr, R1, R1, R2)
 }
 
-// r3 precharged, and loaded from the table that begins at t.
+// r3 precharged and loaded from the table that begins at t, and the bus brought back to the table's start.
 fn put_fetch(out: &mut [u16], at: usize, t: u8) -> usize
     requires { ⌜ 6 * (at + length (fetch t)) ≤ length (now out) ⌝ }
     ensures { λ r. ⌜ Wrote (now (out .entry)) (now (out .exit)) at r (fetch t) ⌝ }
 {
-    put_precharged(out, at, R3, table_cell(1, t))
+    let start = table_cell(0, t);
+    let cleared = put_move(out, at, R3, start);
+    let loaded = put_move(out, cleared, R3, table_cell(1, t));
+    put_move(out, loaded, R2, start)
 }
 
 // Both bits of the code flipped.

@@ -1,4 +1,4 @@
--- The text of a run: its rows stand in the trace store, six numbers each, and its ending is the answer's. Assumes nothing.
+-- The text of a run: its rows stand in the trace store one after the other, and its ending is the answer's. Assumes nothing.
 use Prim.Native.Nat.{ℕ, zero, suc, _*_, _/_, _≤_}
 use mathlib.Core.Path.{_≡_, refl, sym, ap, ap₂, _∙_}
 use mathlib.Core.Bool.{Bool, true, false, cond}
@@ -14,9 +14,9 @@ use Rattle.model.specs.declared.Line.{Line}
 use Rattle.model.specs.Limits.{lineWidth, stateSize, rowWidth}
 use Rattle.model.specs.Answers.{Report, done, report, counted, refused, halted, spent, Outcome, outcome, atFront}
 use Rattle.model.specs.Places.{State}
-use Rattle.model.specs.Step.{Row, next, after}
+use Rattle.model.specs.Step.{Row, next, after, busAfter}
 use Rattle.model.specs.Stored.{lineCount, lines, programCheck}
-use Rattle.model.specs.Run.{Ran, run, answer, runLeaves, runOutcome}
+use Rattle.model.specs.Run.{Ran, runOn, run, answer, runLeaves, runOutcome}
 use Rattle.model.specs.Images.{image, toImageOutcome}
 use Rattle.model.specs.Expansion.{expand}
 use Rattle.model.specs.Programs.{traceBudget, orRefusal, printed, numbersText, endingText, traceText, tracePrints}
@@ -31,31 +31,31 @@ use Rattle.programs.specs.Loading.{loadOutcome}
 use Rattle.programs.specs.Running.{runText, endedText}
 use Rattle.programs.proofs.LoadLaws.{Loaded, part-lines, refusal-printed}
 
--- ---- rows of six numbers
+-- ---- rows of a row's width
 
-abbrev pub Sixes : List Row → Type 0
-Sixes [] = Unit {0}
-Sixes (r ∷ rs) = (length r ≡ rowWidth) × Sixes rs
+abbrev pub WholeRows : List Row → Type 0
+WholeRows [] = Unit {0}
+WholeRows (r ∷ rs) = (length r ≡ rowWidth) × WholeRows rs
 
-pub run-sixes : (p : List Line) (n k : ℕ) (s : State) → Sixes (run p n k s .rows)
-run-sixes p zero k s = rw (run-zero p k s) tt
-run-sixes p (suc n) k s = by (λ k s. run-sixes p n k s) (getElem? p k) refl
+pub run-whole : (p : List Line) (n k : ℕ) (s : State) (b : ℕ) → WholeRows (runOn p n k s b .rows)
+run-whole p zero k s b = rw (run-zero p k s b) tt
+run-whole p (suc n) k s b = by (λ k s b. run-whole p n k s b) (getElem? p k) refl
   where
-    by : ((k : ℕ) (s : State) → Sixes (run p n k s .rows)) → (o : Option Line) → getElem? p k ≡ o → Sixes (run p (suc n) k s .rows)
-    by ih none e = rw (stopped p k s e (suc n)) tt
-    by ih (some l) e = rw (step-run p k s l e n) (row-length l k s, ih (next l k s) (after l s))
+    by : ((k : ℕ) (s : State) (b : ℕ) → WholeRows (runOn p n k s b .rows)) → (o : Option Line) → getElem? p k ≡ o → WholeRows (runOn p (suc n) k s b .rows)
+    by ih none e = rw (stopped p k s b e (suc n)) tt
+    by ih (some l) e = rw (step-run p k s b l e n) (row-length l k s b, ih (next l k s) (after l s) (busAfter l s b))
 
-flat-length : (rs : List Row) → Sixes rs → length (flat rs) ≡ rowWidth * length rs
+flat-length : (rs : List Row) → WholeRows rs → length (flat rs) ≡ rowWidth * length rs
 unfolding flatMap
 flat-length [] h = refl
 flat-length (r ∷ rs) h = omega (arith, length-append r (flat rs), flat-length rs (h .1), h .0)
 
-flat-rows : (rs : List Row) → Sixes rs → rowsFrom (length rs) (flat rs) ≡ rs
+flat-rows : (rs : List Row) → WholeRows rs → rowsFrom (length rs) (flat rs) ≡ rs
 unfolding flatMap rowsFrom
 flat-rows [] h = refl
 flat-rows (r ∷ rs) h = rw (take-at r (flat rs) rowWidth (h .0), drop-at r (flat rs) rowWidth (h .0), flat-rows rs (h .1))
 
-flat-text : (rs : List Row) → Sixes rs → rowsText (length (flat rs) / rowWidth) (flat rs) ≡ flatMap numbersText rs
+flat-text : (rs : List Row) → WholeRows rs → rowsText (length (flat rs) / rowWidth) (flat rs) ≡ flatMap numbersText rs
 unfolding rowsText
 flat-text rs h =
     let e : length (flat rs) / rowWidth ≡ length rs = omega (arith, flat-length rs h) in
@@ -158,7 +158,7 @@ module _ (p state state′ t new : List ℕ) (a : Answer) (r : Report) (ok : pro
 
   module _ (word : List ℕ) (k : ℕ) (d : Ending (lines p) ran word k) where
     numbers : length (flat (ran .rows)) ≡ rowWidth * k
-    numbers = flat-length (ran .rows) (run-sixes (lines p) traceBudget 0 (image neighbours zeros)) ∙ ap (λ (n : ℕ). rowWidth * n) (sym (d .steps))
+    numbers = flat-length (ran .rows) (run-whole (lines p) traceBudget 0 (image neighbours zeros) 0) ∙ ap (λ (n : ℕ). rowWidth * n) (sym (d .steps))
 
     pub steps-fit : rowWidth * k ≤ length new
     steps-fit = omega (arith, ap length trace-is, numbers, length-append (flat (ran .rows)) (drop (length (flat (ran .rows))) t))
@@ -167,7 +167,7 @@ module _ (p state state′ t new : List ℕ) (a : Answer) (r : Report) (ok : pro
     ended-is =
         let f : take (rowWidth * k) new ≡ flat (ran .rows) = ap (take (rowWidth * k)) trace-is ∙ take-at (flat (ran .rows)) (drop (length (flat (ran .rows))) t) (rowWidth * k) numbers in
         ended-text new word k ∙ ap (λ (l : List ℕ). linesText l word (k ∷ [])) f ∙ lines-text (flat (ran .rows)) word (k ∷ [])
-        ∙ ap₂ (λ (x y : List ℕ). x ++ y) (flat-text (ran .rows) (run-sixes (lines p) traceBudget 0 (image neighbours zeros))) (sym (d .line))
+        ∙ ap₂ (λ (x y : List ℕ). x ++ y) (flat-text (ran .rows) (run-whole (lines p) traceBudget 0 (image neighbours zeros) 0)) (sym (d .line))
         ∙ sym (trace-text (lines p) ran) ∙ sym (run-text p)
 
   pub never-counts : (n : ℕ) → report a ≡ counted n → ⊥

@@ -15,8 +15,8 @@ use Rattle.model.specs.Answers.{Report, done, refused, counted, outcome, atFron
 use Rattle.model.specs.Places.{State}
 use Rattle.model.specs.Stored.{lines}
 use Rattle.model.specs.Text.{spellLine}
-use Rattle.model.specs.Step.{Row, next, after}
-use Rattle.model.specs.Run.{Ran, run}
+use Rattle.model.specs.Step.{Row, next, after, busAfter}
+use Rattle.model.specs.Run.{Ran, runOn, run}
 use Rattle.model.specs.Marks.{markCheck, Accepted}
 use Rattle.model.specs.Expansion.{expand}
 use Rattle.model.specs.Programs.{inputSize, traceBudget, orRefusal, printed, numbersText, endingText, traceText, expandPrints, tracePrints}
@@ -30,7 +30,7 @@ use Rattle.printing.proofs.SizeLaws.{spelled-most}
 use Rattle.lines.proofs.LeftLaws.{all-fits}
 use Rattle.lines.proofs.LineTexts.{numbers-most, refusal-most}
 use Rattle.programs.proofs.LoadLaws.{printed-is, expand-prints}
-use Rattle.programs.proofs.RunLaws.{Sixes, run-sixes, ending-is, endWord, trace-text, lineRun, trace-prints}
+use Rattle.programs.proofs.RunLaws.{WholeRows, run-whole, ending-is, endWord, trace-text, lineRun, trace-prints}
 
 -- ---- what is printed
 
@@ -58,19 +58,19 @@ expansion-most-bytes input =
 
 -- ---- the trace
 
-rows-few : (p : List Line) (n k : ℕ) (s : State) → length (run p n k s .rows) ≤ n
-rows-few p zero k s = rw (run-zero p k s) (omega arith)
-rows-few p (suc n) k s = by (λ k s. rows-few p n k s) (getElem? p k) refl
+rows-few : (p : List Line) (n k : ℕ) (s : State) (b : ℕ) → length (runOn p n k s b .rows) ≤ n
+rows-few p zero k s b = rw (run-zero p k s b) (omega arith)
+rows-few p (suc n) k s b = by (λ k s b. rows-few p n k s b) (getElem? p k) refl
   where
-    by : ((k : ℕ) (s : State) → length (run p n k s .rows) ≤ n) → (o : Option Line) → getElem? p k ≡ o → length (run p (suc n) k s .rows) ≤ suc n
-    by ih none e = rw (stopped p k s e (suc n)) (omega arith)
-    by ih (some l) e = rw (step-run p k s l e n) (omega (arith, ih (next l k s) (after l s)))
+    by : ((k : ℕ) (s : State) (b : ℕ) → length (runOn p n k s b .rows) ≤ n) → (o : Option Line) → getElem? p k ≡ o → length (runOn p (suc n) k s b .rows) ≤ suc n
+    by ih none e = rw (stopped p k s b e (suc n)) (omega arith)
+    by ih (some l) e = rw (step-run p k s b l e n) (omega (arith, ih (next l k s) (after l s) (busAfter l s b)))
 
 row-most : (r : Row) → length r ≡ rowWidth → length (numbersText r) ≤ rowBytes
 row-most [] h = absurd (omega arith)
 row-most (n ∷ ns) h = omega (arith, numbers-most n ns)
 
-rows-most : (rs : List Row) → Sixes rs → length (flatMap numbersText rs) ≤ rowBytes * length rs
+rows-most : (rs : List Row) → WholeRows rs → length (flatMap numbersText rs) ≤ rowBytes * length rs
 unfolding flatMap
 rows-most [] h = omega arith
 rows-most (r ∷ rs) h = omega (arith, length-append (numbersText r) (flatMap numbersText rs), row-most r (h .0), rows-most rs (h .1))
@@ -89,8 +89,8 @@ trace-most p n k s =
       arith,
       ap length (trace-text p x),
       length-append (flatMap numbersText (x .rows)) (endingText p x),
-      rows-most (x .rows) (run-sixes p n k s),
-      rows-few p n k s,
+      rows-most (x .rows) (run-whole p n k s 0),
+      rows-few p n k s 0,
       ending-most p x,
     )
 

@@ -6,14 +6,14 @@ use lib.ListN.{take, replicate}
 use Rattle.model.specs.Layouts.{neighbours}
 use Rattle.model.specs.Limits.{stateSize, rowWidth}
 use Rattle.model.specs.Stored.{lines}
-use Rattle.model.specs.Run.{run}
+use Rattle.model.specs.Run.{runOn, run}
 use Rattle.model.specs.Images.{image}
 use Rattle.model.specs.Programs.{traceBudget, traceText}
 use Rattle.lines.specs.Printing.{linesText}
 
 -- the trace of a stored program's run from the image of the all-zero state
 unfoldable pub runText : List ℕ → List ℕ
-unfolding traceText run image
+unfolding traceText runOn image
 runText p = traceText (lines p) (run (lines p) traceBudget 0 (image neighbours (replicate stateSize 0)))
 
 -- the rows of the steps done, then a word and the steps

@@ -1,4 +1,5 @@
--- Bounds: for each place a list of values that its set stays within. One step of the walk by what holds of all states within the bounds.
+-- Bounds: for each place a list of values that its set stays within, and one for the bus. One step of the walk by what holds of all states and
+-- all values of the bus within the bounds.
 -- Assumes nothing.
 use mathlib.Core.Path.{_≡_, sym, _∙_}
 use mathlib.Core.Bool.{Bool, true, false, not, cond}
@@ -16,13 +17,13 @@ use Rattle.model.specs.declared.Operand.{Operand}
 use Rattle.model.specs.declared.Line.{Line}
 use Rattle.model.specs.Limits.{stateSize}
 use Rattle.model.specs.Places.{State, kindOf, place}
-use Rattle.model.specs.Step.{Row, meaning, row, result, next}
+use Rattle.model.specs.Step.{Row, meaning, row, result, next, busAfter}
 use Rattle.model.proofs.TestLaws.{below}
 use Rattle.sets.specs.declared.Verdict.the-variants.{Balanced, Spent}
-use Rattle.sets.specs.Walk.{Sets, several, values, heads, base, branches, meanings, written, onto, ended, walk}
+use Rattle.sets.specs.Walk.{Sets, several, values, heads, base, branches, meanings, written, onto, buses, ended, walk}
 use Rattle.sets.specs.Claims.{In, Drawn, Full}
-use Rattle.sets.proofs.Members.{few, single, single-map, settled}
-use Rattle.sets.proofs.DrawnStates.{heads-drawn, drawn-in, written-in, written-once}
+use Rattle.sets.proofs.Members.{first-in, in-some, few, single, single-map, settled}
+use Rattle.sets.proofs.DrawnStates.{heads-drawn, drawn-in, written-in, written-once, in-buses, buses-in}
 use Rattle.sets.proofs.Sound.{One, onto-full, walk-zero, walk-none, Passed, Goes, walk-goes}
 
 abbrev pub Bound : Type 0
@@ -36,9 +37,13 @@ pub record Fits (B : Bound) (s : State) : Type 0 where
   pub long : length s ≡ stateSize
   pub each : (i : ℕ) → i < stateSize → In (getD s i 0) (B i)
 
--- the walk passes with every budget up to n, from all sets under the bound
-abbrev pub UpTo : List Line → ℕ → ℕ → Bound → Type 0
-UpTo p n k B = (m t : ℕ) → m ≤ n → (S : Sets) → Under B S → Passed (walk p m k t S)
+-- values of the bus, one at least, all within X
+abbrev pub Carries : List ℕ → List ℕ → Type 0
+Carries X bus = (0 < length bus) × ((b : ℕ) → In b bus → In b X)
+
+-- the walk passes with every budget up to n, from all sets under the bound, the bus within X
+abbrev pub UpTo : List Line → ℕ → ℕ → Bound → List ℕ → Type 0
+UpTo p n k B X = (m t : ℕ) → m ≤ n → (S : Sets) → Under B S → (bus : List ℕ) → Carries X bus → Passed (walk p m k t S bus)
 
 -- one value at most within the bound, or no place
 abbrev pub Sole : Bound → ℕ → Type 0
@@ -50,14 +55,15 @@ sole-past B i h = inl h
 pub sole-in : (B : Bound) (i : ℕ) → ((x y : ℕ) → In x (B i) → In y (B i) → x ≡ y) → Sole B i
 sole-in B i h = inr h
 
--- what a line does in all states within the bound
-pub record Does (B : Bound) (l : Line) (k : ℕ) (q : ℕ) (Q : List ℕ) (ρ : Row) (j : ℕ) : Type 0 where
+-- what a line does in all states within the bound, the bus going from X to Y
+pub record Does (B : Bound) (X : List ℕ) (l : Line) (k : ℕ) (q : ℕ) (Q : List ℕ) (ρ : Row) (Y : List ℕ) (j : ℕ) : Type 0 where
   pub aim : Sole B (base (l .destination))
   pub args : T (branches (l .opcode)) → (s : State) → Fits B s
       → (Sole B (base (l .first)) × Sole B (place (l .first) s)) × (Sole B (base (l .second)) × Sole B (place (l .second) s))
   pub dest : (s : State) → Fits B s → place (l .destination) s ≡ q
   pub res : (s : State) → Fits B s → In (result l s) Q
-  pub shown : (s : State) → Fits B s → row l k s ≡ ρ
+  pub shown : (s : State) → Fits B s → (b : ℕ) → In b X → row l k s b ≡ ρ
+  pub leads : (s : State) → Fits B s → (b : ℕ) → In b X → In (busAfter l s b) Y
   pub goes : (s : State) → Fits B s → next l k s ≡ j
   pub count : length Q ≤ 16
 
@@ -92,12 +98,12 @@ module _ {B : Bound} {S : Sets} (H : Under B S) where
       single-map (meaning m (kindOf o)) (values S i) (getD (heads S) i 0)
       (λ x a. settled x (getD (heads S) i 0) (values S i) (sole-one i h) a (drawn-in S (H .full) (heads S) (heads-drawn S (H .full)) i))
 
-  module _ {l : Line} {k q : ℕ} {Q : List ℕ} {ρ : Row} {j : ℕ} (D : Does B l k q Q ρ j) where
+  module _ {X : List ℕ} {l : Line} {k q : ℕ} {Q : List ℕ} {ρ : Row} {Y : List ℕ} {j : ℕ} (D : Does B X l k q Q ρ Y j) where
     does-written : (x : ℕ) → In x (written S l) → In x Q
     does-written x m = let r = written-in S l x (H .full) m in rw (r .2) (D .res (r .0) (fits (r .0) (r .1)))
 
-    does-go : Goes S l k
-    does-go =
+    does-go : (bus : List ℕ) → Carries X bus → Goes S bus l k
+    does-go bus C =
         record {
           settled = (
             sole-one (base (l .destination)) (D .aim),
@@ -107,8 +113,14 @@ module _ {B : Bound} {S : Sets} (H : Under B S) where
             ),
           );
           few = omega (arith, few (written S l) Q (written-once S l) does-written, D .count);
-          same-rows = λ s E. D .shown (heads S) heads-fit ∙ sym (D .shown s (fits s E));
+          same-rows = λ s b E m. D .shown (heads S) heads-fit (getD bus 0 0) (C .1 (getD bus 0 0) (first-in bus (C .0))) ∙ sym (D .shown s (fits s E) b (C .1 b m));
         }
+
+    does-carry : (bus : List ℕ) → Carries X bus → Carries Y (buses S bus l)
+    does-carry bus C = (
+      in-some (busAfter l (heads S) (getD bus 0 0)) (buses S bus l) (in-buses S bus l (heads S) (getD bus 0 0) (H .full) (heads-drawn S (H .full)) (first-in bus (C .0))),
+      λ x m. let g = buses-in S bus l x (H .full) m in rw (g .4) (D .leads (g .0) (fits (g .0) (g .2)) (g .1) (C .1 (g .1) (g .3))),
+    )
 
     does-onto : {C : Bound} → Turns B q Q C → Under C (onto S l)
     unfolding onto
@@ -128,15 +140,16 @@ passed-ended p k t = go (ltb k (length p))
     go true = tt
     go false = tt
 
-pub up-zero : (p : List Line) (k : ℕ) (B : Bound) → UpTo p zero k B
-up-zero p k B zero t le S H = rw (walk-zero p k t S) (passed-ended p k t)
-up-zero p k B (suc m) t le S H = absurd (omega arith)
+pub up-zero : (p : List Line) (k : ℕ) (B : Bound) (X : List ℕ) → UpTo p zero k B X
+up-zero p k B X zero t le S H bus C = rw (walk-zero p k t S bus) (passed-ended p k t)
+up-zero p k B X (suc m) t le S H bus C = absurd (omega arith)
 
-pub step-on : (p : List Line) (n k : ℕ) (B C : Bound) (l : Line) (q : ℕ) (Q : List ℕ) (ρ : Row) (j : ℕ)
-    → getElem? p k ≡ some l → Does B l k q Q ρ j → Turns B q Q C → UpTo p n j C → UpTo p (suc n) k B
-step-on p n k B C l q Q ρ j e D R up zero t le S H = up-zero p k B zero t (omega arith) S H
-step-on p n k B C l q Q ρ j e D R up (suc m) t le S H =
-    rw (walk-goes p m k t S l e (H .full) (does-go H D), D .goes (heads S) (heads-fit H)) (up m (suc t) (omega arith) (onto S l) (does-onto H D R))
+pub step-on : (p : List Line) (n k : ℕ) (B : Bound) (X : List ℕ) (C : Bound) (Y : List ℕ) (l : Line) (q : ℕ) (Q : List ℕ) (ρ : Row) (j : ℕ)
+    → getElem? p k ≡ some l → Does B X l k q Q ρ Y j → Turns B q Q C → UpTo p n j C Y → UpTo p (suc n) k B X
+step-on p n k B X C Y l q Q ρ j e D R up zero t le S H bus c = up-zero p k B X zero t (omega arith) S H bus c
+step-on p n k B X C Y l q Q ρ j e D R up (suc m) t le S H bus c =
+    rw (walk-goes p m k t S bus l e (H .full) (does-go H D bus c), D .goes (heads S) (heads-fit H))
+    (up m (suc t) (omega arith) (onto S l) (does-onto H D R) (buses S bus l) (does-carry H D bus c))
 
-pub up-none : (p : List Line) (n k : ℕ) (B : Bound) → getElem? p k ≡ none → UpTo p n k B
-up-none p n k B e m t le S H = rw (walk-none p m k t S e) (passed-ended p k t)
+pub up-none : (p : List Line) (n k : ℕ) (B : Bound) (X : List ℕ) → getElem? p k ≡ none → UpTo p n k B X
+up-none p n k B X e m t le S H bus c = rw (walk-none p m k t S bus e) (passed-ended p k t)

@@ -1,4 +1,4 @@
--- Lines one after the other, under bounds that each changes at one place. Assumes nothing.
+-- Lines one after the other, under bounds that each changes at one place, and on the bus. Assumes nothing.
 use mathlib.Core.Path.{_≡_, refl, subst}
 use mathlib.Core.Bool.{Bool, true, false, cond}
 use mathlib.Core.List.{List, [], _∷_, _++_}
@@ -42,27 +42,27 @@ turn-again B q P Q = record { keep = λ i g n x m. rw (put-other q Q B i n) (rw 
 
 -- ---- lines
 
--- a line that goes on to the next and takes sets under B to sets under C
-pub record Step (B : Bound) (l : Line) (C : Bound) : Type 0 where
+-- a line that goes on to the next and takes sets under B to sets under C, and the bus from X to Y
+pub record Step (B : Bound) (X : List ℕ) (l : Line) (C : Bound) (Y : List ℕ) : Type 0 where
   pub at : ℕ
   pub written : List ℕ
   pub shows : ℕ → Row
-  pub does : (k : ℕ) → Does B l k at written (shows k) (suc k)
+  pub does : (k : ℕ) → Does B X l k at written (shows k) Y (suc k)
   pub turns : Turns B at written C
 
-pub data Chain : Bound → List Line → Bound → Type 0 where
-  end : {B : Bound} → Chain B [] B
-  line : {B C D : Bound} {l : Line} {ls : List Line} → Step B l C → Chain C ls D → Chain B (l ∷ ls) D
+pub data Chain : Bound → List ℕ → List Line → Bound → List ℕ → Type 0 where
+  end : {B : Bound} {X : List ℕ} → Chain B X [] B X
+  line : {B C D : Bound} {X Y Z : List ℕ} {l : Line} {ls : List Line} → Step B X l C Y → Chain C Y ls D Z → Chain B X (l ∷ ls) D Z
 
-pub chain-append : {B C D : Bound} {xs ys : List Line} → Chain B xs C → Chain C ys D → Chain B (xs ++ ys) D
+pub chain-append : {B C D : Bound} {X Y Z : List ℕ} {xs ys : List Line} → Chain B X xs C Y → Chain C Y ys D Z → Chain B X (xs ++ ys) D Z
 chain-append end d = d
 chain-append (line s c) d = line s (chain-append c d)
 
 -- where the walk passes after the lines it passes from the first of them, with a budget greater by their number
-pub chain-up : {B D : Bound} {ls : List Line} → Chain B ls D → (p t : List Line) (n k : ℕ) → drop k p ≡ ls ++ t → UpTo p n (k + length ls) D → UpTo p (n + length ls) k B
+pub chain-up : {B D : Bound} {X Z : List ℕ} {ls : List Line} → Chain B X ls D Z → (p t : List Line) (n k : ℕ) → drop k p ≡ ls ++ t → UpTo p n (k + length ls) D Z → UpTo p (n + length ls) k B X
 chain-up end p t n k e up = rw (add-zero n) (rw (add-zero k) at up)
-chain-up (line {B = B} {C = C} {D = D} {l = l} {ls = ls} s c) p t n k e up =
+chain-up (line {B = B} {C = C} {D = D} {X = X} {Y = Y} {Z = Z} {l = l} {ls = ls} s c) p t n k e up =
     let tail : drop (suc k) p ≡ ls ++ t = rw (← add-one k, ← drop-drop 1 k p, e) in
-    subst (λ (m : ℕ). UpTo p m k B) (omega arith)
-    (step-on p (n + length ls) k B C l (s .at) (s .written) (s .shows k) (suc k) (drop-head p k l (ls ++ t) e) (s .does k) (s .turns)
-    (chain-up c p t n (suc k) tail (subst (λ (j : ℕ). UpTo p n j D) (omega arith) up)))
+    subst (λ (m : ℕ). UpTo p m k B X) (omega arith)
+    (step-on p (n + length ls) k B X C Y l (s .at) (s .written) (s .shows k) (suc k) (drop-head p k l (ls ++ t) e) (s .does k) (s .turns)
+    (chain-up c p t n (suc k) tail (subst (λ (j : ℕ). UpTo p n j D Z) (omega arith) up)))

@@ -2,28 +2,28 @@
 -- give exactly the results and the rows of all drawn states.
 -- Assumes nothing.
 use mathlib.Core.Path.{_≡_, refl, sym, ap, ap₂, _∙_}
-use mathlib.Core.Bool.{Bool, true, false, not, _&&_}
+use mathlib.Core.Bool.{Bool, true, false, _&&_}
 use mathlib.Core.List.{List, [], _∷_, map, flatMap}
 use mathlib.Core.List.{List·Memᴰ, List·Memᴰ·head, List·Memᴰ·tail, List·Memᴰ·not-nil, List·Memᴰ·cases-cons, List·Memᴰ·eq-of-singleton}
 use mathlib.Core.List.{Memᴰ·append-left, Memᴰ·append-right, List·Memᴰ·append-cases, Memᴰ·map, Memᴰ·of-map}
 use mathlib.Core.Logic.{_⊎_, inl, inr}
-use Prim.Native.Nat.{ℕ, _<_}
+use Prim.Native.Nat.{ℕ, _≤_, _<_}
 use native.Mathlib.Decide.{ℕ-discrete}
 use native.Mathlib.Omega.{arith}
 use borrow.Author.Tests.{eqb-true, eqb-false}
 use lib.Dec.{T, eqb}
 use lib.ListN.{length, getD, set, length-map, length-set, List·getD-map, List·getD-eq-default}
-use lib.Seq.{getD-set-same, getD-set-other}
+use lib.Seq.{getD-set-same, getD-set-other, set-out}
 use Rattle.model.specs.declared.Mark.{Mark}
 use Rattle.model.specs.declared.Operand.{Operand}
 use Rattle.model.specs.declared.Operand.the-variants.{Empty, Literal, Register, Cell, PublicCell, SensitiveCell, TableCell}
 use Rattle.model.specs.declared.Line.{Line}
 use Rattle.model.specs.Limits.{stateSize}
 use Rattle.model.specs.Places.{State, kindOf, place, value, address}
-use Rattle.model.specs.Step.{Row, meaning, row, result, argument}
+use Rattle.model.specs.Step.{Row, meaning, onBus, busAfter, distances, row, result, argument}
 use Rattle.model.proofs.TestLaws.{below}
-use Rattle.sets.specs.Walk.{Sets, values, heads, base, involved, draw, choices, written, sameRow, allShow, steady}
-use Rattle.sets.specs.Claims.{In, Drawn, Once, Full, ExactSteps}
+use Rattle.sets.specs.Walk.{Sets, values, heads, base, involved, draw, choices, written, buses, sameRow, allShow, allBuses, steady}
+use Rattle.sets.specs.Claims.{In, Drawn, Once, Full}
 use Rattle.sets.proofs.Members.{first-in, in-mem, mem-in, distinct-in, in-distinct, once-distinct}
 
 -- a state is one of the list
@@ -69,26 +69,26 @@ pub narrow-full : (S : Sets) (i v : ℕ) → Full S → Full (narrow S i v)
 unfolding Once
 narrow-full S i v F = full-set S i (v ∷ []) F (omega arith) ((λ m. m), tt)
 
--- ---- the states of a flatMap
+-- ---- what a flatMap has
 
-among-flat : (g : ℕ → List State) (vs : List ℕ) (v : ℕ) {e : State} → In v vs → Among e (g v) → Among e (flatMap g vs)
+pub among-flat : {A : Type 0} (g : ℕ → List A) (vs : List ℕ) (v : ℕ) {e : A} → In v vs → List·Memᴰ e (g v) → List·Memᴰ e (flatMap g vs)
 unfolding flatMap
 among-flat g [] v m h = absurd m
 among-flat g (w ∷ vs) v (inl q) h = Memᴰ·append-left (flatMap g vs) (rw q at h)
 among-flat g (w ∷ vs) v (inr m) h = Memᴰ·append-right (g w) (among-flat g vs v m h)
 
--- a state of a flatMap comes of one of the values
-record From (g : ℕ → List State) (vs : List ℕ) (e : State) : Type 0 where
-  number : ℕ
-  listed : In number vs
-  gives : Among e (g number)
+-- it comes of one of the values
+pub record From {A : Type 0} (g : ℕ → List A) (vs : List ℕ) (e : A) : Type 0 where
+  pub number : ℕ
+  pub listed : In number vs
+  pub gives : List·Memᴰ e (g number)
 
-flat-among : (g : ℕ → List State) (vs : List ℕ) {e : State} → Among e (flatMap g vs) → From g vs e
+pub flat-among : {A : Type 0} (g : ℕ → List A) (vs : List ℕ) {e : A} → List·Memᴰ e (flatMap g vs) → From g vs e
 unfolding flatMap
 flat-among g [] m = absurd (List·Memᴰ·not-nil m)
-flat-among g (w ∷ vs) {e} m = go (λ m. flat-among g vs m) (List·Memᴰ·append-cases (g w) m)
+flat-among {A} g (w ∷ vs) {e} m = go (λ m. flat-among g vs m) (List·Memᴰ·append-cases (g w) m)
   where
-    go : (Among e (flatMap g vs) → From g vs e) → Among e (g w) ⊎ Among e (flatMap g vs) → From g (w ∷ vs) e
+    go : (List·Memᴰ e (flatMap g vs) → From g vs e) → List·Memᴰ e (g w) ⊎ List·Memᴰ e (flatMap g vs) → From g (w ∷ vs) e
     go rest (inl m) = record { number = w; listed = inl refl; gives = m }
     go rest (inr m) = let r = rest m in record { number = r .number; listed = inr (r .listed); gives = r .gives }
 
@@ -107,6 +107,22 @@ drawn-wide S i v e F m D = record { long = D .long; each = λ j g. go j g (ℕ-d
     go j g (yes q) =
         let h : i < stateSize = rw q at g in
         rw q (alone (getD e i 0) (rw (getD-set-same S i (v ∷ []) (0 ∷ []) (omega (arith, F .long))) at (D .each i h)))
+
+-- each value of a place is that of some drawn state
+pub drawn-with : (S : Sets) (i v : ℕ) → Full S → In v (values S i) → (s : State) × Drawn S s × (getD s i 0 ≡ v)
+drawn-with S i v F m = (heads (narrow S i v), drawn-wide S i v (heads (narrow S i v)) F m (heads-drawn (narrow S i v) (narrow-full S i v F)), heads-at (narrow S i v) i ∙ there)
+  where
+    past : stateSize ≤ i → values S i ≡ 0 ∷ []
+    past h = List·getD-eq-default S (0 ∷ []) {n = i} (omega (arith, F .long))
+
+    sole : In v (0 ∷ []) → v ≡ 0
+    sole (inl e) = e
+    sole (inr n) = absurd n
+
+    there : getD (values (narrow S i v) i) 0 0 ≡ v
+    there =
+        below i stateSize (λ h. rw (getD-set-same S i (v ∷ []) (0 ∷ []) (omega (arith, F .long))) refl)
+        (λ h. rw (set-out S i (v ∷ []) (omega (arith, F .long)), past h) (sym (sole (rw (past h) at m))))
 
 draw-drawn : (fs : List (State → ℕ)) (S : Sets) → Full S → (e : State) → Among e (draw S fs) → Drawn S e
 unfolding draw
@@ -235,12 +251,21 @@ meets-result : (l : Line) (e s : State) → Meets l e s → result l e ≡ resul
 unfolding result
 meets-result l e s M = rw (argument-byte (l .mark) (l .first) e s (M .first .byte), argument-byte (l .mark) (l .second) e s (M .second .byte))
 
-meets-row : (l : Line) (k : ℕ) (e s : State) → Meets l e s → row l k e ≡ row l k s
-unfolding row
-meets-row l k e s M =
+meets-row : (l : Line) (k : ℕ) (e s : State) (b : ℕ) → Meets l e s → row l k e b ≡ row l k s b
+unfolding row distances onBus
+meets-row l k e s b M =
     rw (
       meets-result l e s M,
       M .destination .byte,
+      address-by (l .first) e s (M .first .through),
+      address-by (l .second) e s (M .second .through),
+      address-by (l .destination) e s (M .destination .through),
+    )
+
+meets-bus : (l : Line) (e s : State) (b : ℕ) → Meets l e s → busAfter l e b ≡ busAfter l s b
+unfolding busAfter onBus
+meets-bus l e s b M =
+    rw (
       address-by (l .first) e s (M .first .through),
       address-by (l .second) e s (M .second .through),
       address-by (l .destination) e s (M .destination .through),
@@ -272,7 +297,7 @@ choice-of S l s F D =
       },
     )
 
--- ---- results and rows
+-- ---- results
 
 pub in-written : (S : Sets) (l : Line) (s : State) → Full S → Drawn S s → In (result l s) (written S l)
 unfolding written
@@ -290,6 +315,30 @@ pub written-once : (S : Sets) (l : Line) → Once (written S l)
 unfolding written
 written-once S l = once-distinct (map (result l) (choices S l))
 
+-- ---- the bus
+
+pub in-buses : (S : Sets) (bus : List ℕ) (l : Line) (s : State) (b : ℕ) → Full S → Drawn S s → In b bus → In (busAfter l s b) (buses S bus l)
+unfolding buses
+in-buses S bus l s b F D m =
+    let c = choice-of S l s F D in
+    let g : ℕ → List ℕ = λ b. map (λ s. busAfter l s b) (choices S l) in
+    in-distinct (busAfter l s b) (flatMap g bus)
+    (mem-in (among-flat g bus b m (rw (meets-bus l (c .0) s b (c .2)) at (Memᴰ·map (λ (s : State). busAfter l s b) (c .1)))))
+
+pub buses-in : (S : Sets) (bus : List ℕ) (l : Line) (x : ℕ) → Full S → In x (buses S bus l) → (s : State) × (b : ℕ) × Drawn S s × In b bus × (x ≡ busAfter l s b)
+unfolding buses
+buses-in S bus l x F m =
+    let g : ℕ → List ℕ = λ b. map (λ s. busAfter l s b) (choices S l) in
+    let from = flat-among g bus (in-mem x (flatMap g bus) (distinct-in x (flatMap g bus) m)) in
+    let r = Memᴰ·of-map (λ (s : State). busAfter l s (from .number)) (choices S l) (from .gives) in
+    (r .0, from .number, choices-drawn S l F (r .0) (r .1), from .listed, sym (r .2))
+
+pub buses-once : (S : Sets) (bus : List ℕ) (l : Line) → Once (buses S bus l)
+unfolding buses
+buses-once S bus l = once-distinct (flatMap (λ b. map (λ s. busAfter l s b) (choices S l)) bus)
+
+-- ---- rows
+
 -- by whether two rows are the same
 by-row : (P : Bool → Type 0) (r q : Row) → (r ≡ q → P true) → ((r ≡ q → ⊥) → P false) → P (sameRow r q)
 unfolding sameRow
@@ -303,39 +352,46 @@ by-row P (x ∷ r) (y ∷ q) f g = go (λ f g. by-row P r q f g) (eqb x y) refl
     go rest false e = g (λ p. eqb-false x y e (cc))
 
 -- by whether all states show a row, or one shows another
-by-show : (P : Bool → Type 0) (l : Line) (k : ℕ) (r : Row) (ss : List State)
-    → (((e : State) → Among e ss → r ≡ row l k e) → P true) → ((e : State) → Among e ss → (r ≡ row l k e → ⊥) → P false) → P (allShow l k r ss)
+pub by-show : (P : Bool → Type 0) (l : Line) (k : ℕ) (r : Row) (b : ℕ) (ss : List State)
+    → (((e : State) → Among e ss → r ≡ row l k e b) → P true) → ((e : State) → Among e ss → (r ≡ row l k e b → ⊥) → P false) → P (allShow l k r b ss)
 unfolding allShow
-by-show P l k r [] f g = f (λ e m. absurd (List·Memᴰ·not-nil m))
-by-show P l k r (s ∷ ss) f g =
-    by-row (λ b. P (b && allShow l k r ss)) r (row l k s)
-    (λ p. by-show P l k r ss (λ all. f (λ e m. go p all e (List·Memᴰ·cases-cons m))) (λ e m n. g e (List·Memᴰ·tail m) n))
+by-show P l k r b [] f g = f (λ e m. absurd (List·Memᴰ·not-nil m))
+by-show P l k r b (s ∷ ss) f g =
+    by-row (λ c. P (c && allShow l k r b ss)) r (row l k s b)
+    (λ p. by-show P l k r b ss (λ all. f (λ e m. go p all e (List·Memᴰ·cases-cons m))) (λ e m n. g e (List·Memᴰ·tail m) n))
     (λ n. g s (List·Memᴰ·head refl) n)
   where
-    go : r ≡ row l k s → ((e : State) → Among e ss → r ≡ row l k e) → (e : State) → (e ≡ s) ⊎ Among e ss → r ≡ row l k e
+    go : r ≡ row l k s b → ((e : State) → Among e ss → r ≡ row l k e b) → (e : State) → (e ≡ s) ⊎ Among e ss → r ≡ row l k e b
     go p all e (inl q) = rw q p
     go p all e (inr m) = all e m
 
--- by whether all drawn states show the row of the first values, or one shows another
-pub by-steady : (P : Bool → Type 0) (S : Sets) (l : Line) (k : ℕ) → Full S
-    → (((s : State) → Drawn S s → row l k (heads S) ≡ row l k s) → P true) → ((s : State) → Drawn S s → (row l k (heads S) ≡ row l k s → ⊥) → P false) → P (steady S l k)
+-- and so with each value on the bus
+by-buses : (P : Bool → Type 0) (l : Line) (k : ℕ) (r : Row) (bs : List ℕ) (ss : List State)
+    → (((e : State) (b : ℕ) → Among e ss → In b bs → r ≡ row l k e b) → P true)
+    → ((e : State) (b : ℕ) → Among e ss → In b bs → (r ≡ row l k e b → ⊥) → P false) → P (allBuses l k r bs ss)
+unfolding allBuses
+by-buses P l k r [] ss f g = f (λ e b m h. absurd h)
+by-buses P l k r (c ∷ bs) ss f g =
+    by-show (λ t. P (t && allBuses l k r bs ss)) l k r c ss
+    (λ here. by-buses P l k r bs ss (λ all. f (λ e b m h. go here all e b m h)) (λ e b m h n. g e b m (inr h) n))
+    (λ e m n. g e c m (inl refl) n)
+  where
+    go : ((e : State) → Among e ss → r ≡ row l k e c) → ((e : State) (b : ℕ) → Among e ss → In b bs → r ≡ row l k e b)
+        → (e : State) (b : ℕ) → Among e ss → (b ≡ c) ⊎ In b bs → r ≡ row l k e b
+    go here all e b m (inl q) = rw q (here e m)
+    go here all e b m (inr h) = all e b m h
+
+-- by whether all drawn states show the row of the first values, with each value on the bus, or one shows another
+pub by-steady : (P : Bool → Type 0) (S : Sets) (bus : List ℕ) (l : Line) (k : ℕ) → Full S
+    → (((s : State) (b : ℕ) → Drawn S s → In b bus → row l k (heads S) (getD bus 0 0) ≡ row l k s b) → P true)
+    → ((s : State) (b : ℕ) → Drawn S s → In b bus → (row l k (heads S) (getD bus 0 0) ≡ row l k s b → ⊥) → P false) → P (steady S bus l k)
 unfolding steady
-by-steady P S l k F f g =
-    by-show P l k (row l k (heads S)) (choices S l)
-    (λ all. f (λ s D. let c = choice-of S l s F D in all (c .0) (c .1) ∙ meets-row l k (c .0) s (c .2)))
-    (λ e m. g e (choices-drawn S l F e m))
+by-steady P S bus l k F f g =
+    by-buses P l k (row l k (heads S) (getD bus 0 0)) bus (choices S l)
+    (λ all. f (λ s b D m. let c = choice-of S l s F D in all (c .0) b (c .1) m ∙ meets-row l k (c .0) s b (c .2)))
+    (λ e b m h. g e b (choices-drawn S l F e m) h)
 
-pub steady-row : (S : Sets) (l : Line) (k : ℕ) (s : State) → Full S → Drawn S s → T (steady S l k) → row l k (heads S) ≡ row l k s
-steady-row S l k s F D = by-steady (λ b. T b → row l k (heads S) ≡ row l k s) S l k F (λ all t. all s D) (λ e E n t. absurd t)
-
-pub exact : ExactSteps
-exact S F l k =
-    record {
-      all-results = λ s D. in-written S l s F D;
-      each-once = written-once S l;
-      no-others = λ x m. written-in S l x F m;
-      like-rows = λ t s u D E. sym (steady-row S l k s F D t) ∙ steady-row S l k u F E t;
-      unlike-rows =
-          by-steady (λ b. T (not b) → (s : State) × (u : State) × Drawn S s × Drawn S u × (row l k s ≡ row l k u → ⊥)) S l k F
-          (λ all t. absurd t) (λ u E n t. (heads S, u, heads-drawn S F, E, n));
-    }
+pub steady-row : (S : Sets) (bus : List ℕ) (l : Line) (k : ℕ) (s : State) (b : ℕ) → Full S → Drawn S s → In b bus → T (steady S bus l k)
+    → row l k (heads S) (getD bus 0 0) ≡ row l k s b
+steady-row S bus l k s b F D m =
+    by-steady (λ c. T c → row l k (heads S) (getD bus 0 0) ≡ row l k s b) S bus l k F (λ all t. all s b D m) (λ e b E m n t. absurd t)

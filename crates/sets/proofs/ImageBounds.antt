@@ -94,8 +94,8 @@ module _ {U : State} {B : Bound} (S : Shown U B) where
   pub place-fixed : (o : Operand) → Steady o → (s : State) → Fits B s → place o s ≡ place o U
   place-fixed o st s F = sym (place-same U s (same-of s F) o st)
 
-  pub address-fixed : (o : Operand) → Steady o → (s : State) → Fits B s → weight (address o s) ≡ weight (address o U)
-  address-fixed o st s F = ap weight (sym (address-same U s (same-of s F) o st))
+  pub address-fixed : (o : Operand) → Steady o → (s : State) → Fits B s → address o s ≡ address o U
+  address-fixed o st s F = sym (address-same U s (same-of s F) o st)
 
   pub sole-public : (i : ℕ) → i < stateSize → kind i ≡ Public → Sole B i
   sole-public i g e = sole-in B i (λ x y a b. sym (S .same i g e x a) ∙ S .same i g e y b)

@@ -1,6 +1,8 @@
 pub mod Members
 pub mod DrawnStates
+pub mod Buses
 pub mod Sound
+pub mod SameBus
 pub mod Bounds
 pub mod Reports
 pub mod Chains

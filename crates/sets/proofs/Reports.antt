@@ -3,7 +3,7 @@
 use mathlib.Core.Path.{_≡_, refl, sym, ap, _∙_, subst}
 use mathlib.Core.Bool.{Bool, true, false, cond, _&&_}
 use mathlib.Core.List.{List, [], _∷_, flatMap}
-use mathlib.Core.Logic.{_↔_}
+use mathlib.Core.Logic.{_↔_, inl}
 use Prim.Native.Nat.{ℕ, zero, suc, _*_, _≤_, _<_}
 use native.Mathlib.Nat.{zero-add}
 use native.Mathlib.Omega.{arith}
@@ -78,17 +78,17 @@ module _ (p : List Line) (sets : List ℕ) (n : ℕ) where
   unfolding judged
   judged-right h = go (eqb (length sets) (setWidth * stateSize)) (sized stateSize sets) (eqb→eq (length sets) (setWidth * stateSize)) h
     where
-      go : (a b : Bool) → (T a → length sets ≡ setWidth * stateSize) → Passed (cond a (cond b (walk p n 0 0 (setsOf sets)) (Refused 22 0)) (Refused 18 0))
+      go : (a b : Bool) → (T a → length sets ≡ setWidth * stateSize) → Passed (cond a (cond b (walk p n 0 0 (setsOf sets) (0 ∷ [])) (Refused 22 0)) (Refused 18 0))
           → (length sets ≡ setWidth * stateSize) × T b
       go true true f h = (f tt, tt)
       go true false f h = absurd h
       go false b f h = absurd h
 
-  judged-walk : length sets ≡ setWidth * stateSize → T (sized stateSize sets) → judged p sets n ≡ walk p n 0 0 (setsOf sets)
+  judged-walk : length sets ≡ setWidth * stateSize → T (sized stateSize sets) → judged p sets n ≡ walk p n 0 0 (setsOf sets) (0 ∷ [])
   unfolding judged
   judged-walk l h = go (eqb (length sets) (setWidth * stateSize)) (sized stateSize sets) (holds (eq-eqb (length sets) (setWidth * stateSize) l)) h
     where
-      go : (a b : Bool) → T a → T b → cond a (cond b (walk p n 0 0 (setsOf sets)) (Refused 22 0)) (Refused 18 0) ≡ walk p n 0 0 (setsOf sets)
+      go : (a b : Bool) → T a → T b → cond a (cond b (walk p n 0 0 (setsOf sets) (0 ∷ [])) (Refused 22 0)) (Refused 18 0) ≡ walk p n 0 0 (setsOf sets) (0 ∷ [])
       go true true g h = refl
       go true false g h = absurd h
       go false b g h = absurd g
@@ -118,9 +118,9 @@ ended-answer p x = go (ltb (x .at) (length p)) (x .at) (length (x .rows))
     go true k t = refl
     go false k t = refl
 
-foretold-answer : (p : List Line) (n : ℕ) (S : Sets) → Foretold p n 0 0 S → (s : State) → Drawn S s → answer p (run p n 0 s) ≡ told (walk p n 0 0 S)
+foretold-answer : (p : List Line) (n : ℕ) (S : Sets) → Foretold p n 0 0 S (0 ∷ []) → (s : State) → Drawn S s → answer p (run p n 0 s) ≡ told (walk p n 0 0 S (0 ∷ []))
 foretold-answer p n S A s D =
-    ended-answer p (run p n 0 s) ∙ rw (A .same-at s D, A .same-rows s D, A .ends, zero-add (length (A .rows)))
+    ended-answer p (run p n 0 s) ∙ rw (A .same-at s 0 D (inl refl), A .same-rows s 0 D (inl refl), A .ends, zero-add (length (A .rows)))
 
 pub sound : Sound
 sound p sets n h s u D E = go (program-answers p)
@@ -130,10 +130,10 @@ sound p sets n h s u D E = go (program-answers p)
         let passed = told-passed (judged (lines p) sets n) .0 (subst Clear (report-told p sets n m e) h) in
         let right = judged-right (lines p) sets n passed in
         let same = judged-walk (lines p) sets n (right .0) (right .1) in
-        let A = walk-sound (lines p) n 0 0 (setsOf sets) (sized-full sets (right .0) (right .1)) (subst Passed same passed) in
-        let told-same : verdictReport p sets n ≡ told (walk (lines p) n 0 0 (setsOf sets)) = report-told p sets n m e ∙ ap told same in
+        let A = walk-sound (lines p) n 0 0 (setsOf sets) (0 ∷ []) (sized-full sets (right .0) (right .1)) (subst Passed same passed) in
+        let told-same : verdictReport p sets n ≡ told (walk (lines p) n 0 0 (setsOf sets) (0 ∷ [])) = report-told p sets n m e ∙ ap told same in
         record {
-          traces = A .same-rows s D ∙ sym (A .same-rows u E);
+          traces = A .same-rows s 0 D (inl refl) ∙ sym (A .same-rows u 0 E (inl refl));
           one = foretold-answer (lines p) n (setsOf sets) A s D ∙ sym told-same;
           other = foretold-answer (lines p) n (setsOf sets) A u E ∙ sym told-same;
         }
@@ -142,10 +142,10 @@ sound p sets n h s u D E = go (program-answers p)
 -- ---- the report on an expansion is clear where the walk passes
 
 pub expansion-clear : (L : Layout) (p : List Line) (sets : List ℕ) (n : ℕ) → Known L → Accepted p → Images L sets
-    → Passed (walk (expand L p) n 0 0 (setsOf sets)) → Clear (verdictReport (flatMap codes (expand L p)) sets n)
+    → Passed (walk (expand L p) n 0 0 (setsOf sets) (0 ∷ [])) → Clear (verdictReport (flatMap codes (expand L p)) sets n)
 expansion-clear L p sets n K A I h =
     let stored = flatMap codes (expand L p) in
-    let told-same : verdictReport stored sets n ≡ told (walk (expand L p) n 0 0 (setsOf sets)) =
+    let told-same : verdictReport stored sets n ≡ told (walk (expand L p) n 0 0 (setsOf sets) (0 ∷ [])) =
     report-told stored sets n (length (expand L p)) (expansion-check L K p A)
     ∙ ap (λ (ls : List Line). told (judged ls sets n)) (expansion-lines L K p A) ∙ ap told (judged-walk (expand L p) sets n (I .long) (I .sizes)) in
-    subst Clear (sym told-same) (told-passed (walk (expand L p) n 0 0 (setsOf sets)) .1 h)
+    subst Clear (sym told-same) (told-passed (walk (expand L p) n 0 0 (setsOf sets) (0 ∷ [])) .1 h)

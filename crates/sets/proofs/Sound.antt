@@ -19,15 +19,15 @@ use Rattle.model.specs.declared.Operand.{Operand}
 use Rattle.model.specs.declared.Line.{Line}
 use Rattle.model.specs.Limits.{stateSize}
 use Rattle.model.specs.Places.{State, kindOf, place}
-use Rattle.model.specs.Step.{Row, row, result, next, after, meaning, argument, taken, targetLine}
-use Rattle.model.specs.Run.{run}
-use Rattle.model.proofs.Runs.{ran, stopped, step-run, run-zero}
+use Rattle.model.specs.Step.{Row, row, result, next, after, busAfter, meaning, argument, taken, targetLine}
+use Rattle.model.specs.Run.{ran, runOn}
+use Rattle.model.proofs.Runs.{stopped, step-run, run-zero}
 use Rattle.sets.specs.declared.Verdict.{Verdict}
 use Rattle.sets.specs.declared.Verdict.the-variants.{Balanced, Spent, Leak, Refused}
-use Rattle.sets.specs.Walk.{Sets, maxValues, several, values, distinct, heads, base, branches, meanings, loose, unsettled, written, steady, onto, ended, walk}
+use Rattle.sets.specs.Walk.{Sets, maxValues, several, values, distinct, heads, base, branches, meanings, loose, unsettled, written, steady, onto, buses, ended, walk}
 use Rattle.sets.specs.Claims.{In, Drawn, Full}
 use Rattle.sets.proofs.Members.{in-some, in-distinct, in-map, settled}
-use Rattle.sets.proofs.DrawnStates.{heads-drawn, drawn-in, full-set, place-by, argument-by, in-written, written-once, by-steady, steady-row}
+use Rattle.sets.proofs.DrawnStates.{heads-drawn, drawn-in, full-set, place-by, argument-by, in-written, written-once, in-buses, by-steady, steady-row}
 
 -- ---- 21 does not hold
 
@@ -131,23 +131,24 @@ onto-drawn S l s F D h =
 
 -- ---- the walk's clauses
 
-pub walk-zero : (p : List Line) (k t : ℕ) (S : Sets) → walk p zero k t S ≡ ended p k t
+pub walk-zero : (p : List Line) (k t : ℕ) (S : Sets) (bus : List ℕ) → walk p zero k t S bus ≡ ended p k t
 unfolding walk
-walk-zero p k t S = refl
+walk-zero p k t S bus = refl
 
-pub walk-none : (p : List Line) (n k t : ℕ) (S : Sets) → getElem? p k ≡ none → walk p n k t S ≡ ended p k t
+pub walk-none : (p : List Line) (n k t : ℕ) (S : Sets) (bus : List ℕ) → getElem? p k ≡ none → walk p n k t S bus ≡ ended p k t
 unfolding walk
-walk-none p zero k t S e = refl
-walk-none p (suc n) k t S e = rw (e, walk)
+walk-none p zero k t S bus e = refl
+walk-none p (suc n) k t S bus e = rw (e, walk)
 
 -- the tests of a step, and what comes after where it passes all three
 abbrev pub tested : Bool → Bool → Bool → ℕ → ℕ → Verdict → Verdict
 tested unsettles many same k t later = cond unsettles (Refused 21 k) (cond many (Refused 22 k) (cond same later (Leak k t)))
 
-pub walk-some : (p : List Line) (n k t : ℕ) (S : Sets) (l : Line) → getElem? p k ≡ some l
-    → walk p (suc n) k t S ≡ tested (unsettled S l) (ltb maxValues (length (written S l))) (steady S l k) k t (walk p n (next l k (heads S)) (suc t) (onto S l))
+pub walk-some : (p : List Line) (n k t : ℕ) (S : Sets) (bus : List ℕ) (l : Line) → getElem? p k ≡ some l
+    → walk p (suc n) k t S bus
+    ≡ tested (unsettled S l) (ltb maxValues (length (written S l))) (steady S bus l k) k t (walk p n (next l k (heads S)) (suc t) (onto S l) (buses S bus l))
 unfolding walk
-walk-some p n k t S l e = rw (e, walk)
+walk-some p n k t S bus l e = rw (e, walk)
 
 -- ---- one step
 
@@ -171,58 +172,59 @@ tests-past false false true k t v h g f = refl
 tests-past false false false k t v h g f = absurd f
 
 -- a line from which the walk goes on
-pub record Goes (S : Sets) (l : Line) (k : ℕ) : Type 0 where
+pub record Goes (S : Sets) (bus : List ℕ) (l : Line) (k : ℕ) : Type 0 where
   pub settled : Settled S l
   pub few : length (written S l) ≤ maxValues
-  pub same-rows : (s : State) → Drawn S s → row l k (heads S) ≡ row l k s
+  pub same-rows : (s : State) (b : ℕ) → Drawn S s → In b bus → row l k (heads S) (getD bus 0 0) ≡ row l k s b
 
-pub walk-goes : (p : List Line) (n k t : ℕ) (S : Sets) (l : Line) → getElem? p k ≡ some l → Full S → Goes S l k
-    → walk p (suc n) k t S ≡ walk p n (next l k (heads S)) (suc t) (onto S l)
-walk-goes p n k t S l e F G =
+pub walk-goes : (p : List Line) (n k t : ℕ) (S : Sets) (bus : List ℕ) (l : Line) → getElem? p k ≡ some l → Full S → Goes S bus l k
+    → walk p (suc n) k t S bus ≡ walk p n (next l k (heads S)) (suc t) (onto S l) (buses S bus l)
+walk-goes p n k t S bus l e F G =
     let many = ltb maxValues (length (written S l)) in
-    let later = walk p n (next l k (heads S)) (suc t) (onto S l) in
-    walk-some p n k t S l e
-    ∙ tests-past (unsettled S l) many (steady S l k) k t later
-    (not-unsettled S l .1 (G .settled)) (rw (le-ltb maxValues (length (written S l)) (G .few)) tt) (by-steady T S l k F (λ all. tt) (λ s D other. other (G .same-rows s D)))
+    let later = walk p n (next l k (heads S)) (suc t) (onto S l) (buses S bus l) in
+    walk-some p n k t S bus l e
+    ∙ tests-past (unsettled S l) many (steady S bus l k) k t later
+    (not-unsettled S l .1 (G .settled)) (rw (le-ltb maxValues (length (written S l)) (G .few)) tt)
+    (by-steady T S bus l k F (λ all. tt) (λ s b D m other. other (G .same-rows s b D m)))
 
-passed-goes : (p : List Line) (n k t : ℕ) (S : Sets) (l : Line) → getElem? p k ≡ some l → Full S → Passed (walk p (suc n) k t S) → Goes S l k
-passed-goes p n k t S l e F h =
+passed-goes : (p : List Line) (n k t : ℕ) (S : Sets) (bus : List ℕ) (l : Line) → getElem? p k ≡ some l → Full S → Passed (walk p (suc n) k t S bus) → Goes S bus l k
+passed-goes p n k t S bus l e F h =
     let many = ltb maxValues (length (written S l)) in
-    let later = walk p n (next l k (heads S)) (suc t) (onto S l) in
-    let w = tests-passed (unsettled S l) many (steady S l k) k t later (rw (walk-some p n k t S l e) at h) in
-    record { settled = not-unsettled S l .0 (w .0); few = nltb→le maxValues (length (written S l)) (w .1); same-rows = λ s D. steady-row S l k s F D (w .2) }
+    let later = walk p n (next l k (heads S)) (suc t) (onto S l) (buses S bus l) in
+    let w = tests-passed (unsettled S l) many (steady S bus l k) k t later (rw (walk-some p n k t S bus l e) at h) in
+    record { settled = not-unsettled S l .0 (w .0); few = nltb→le maxValues (length (written S l)) (w .1); same-rows = λ s b D m. steady-row S bus l k s b F D m (w .2) }
 
 -- ---- whole walks
 
--- all runs from drawn states have the same rows and end at the same line, and the walk ends as they do
-pub record Foretold (p : List Line) (n k t : ℕ) (S : Sets) : Type 0 where
+-- all runs from drawn states, with each value on the bus, have the same rows and end at the same line, and the walk ends as they do
+pub record Foretold (p : List Line) (n k t : ℕ) (S : Sets) (bus : List ℕ) : Type 0 where
   pub rows : List Row
   pub at : ℕ
-  pub ends : walk p n k t S ≡ ended p at (t + length rows)
-  pub same-rows : (s : State) → Drawn S s → run p n k s .rows ≡ rows
-  pub same-at : (s : State) → Drawn S s → run p n k s .at ≡ at
+  pub ends : walk p n k t S bus ≡ ended p at (t + length rows)
+  pub same-rows : (s : State) (b : ℕ) → Drawn S s → In b bus → runOn p n k s b .rows ≡ rows
+  pub same-at : (s : State) (b : ℕ) → Drawn S s → In b bus → runOn p n k s b .at ≡ at
 
-foretold-end : (p : List Line) (n k t : ℕ) (S : Sets) → walk p n k t S ≡ ended p k t → ((s : State) → run p n k s ≡ ran k s []) → Foretold p n k t S
-foretold-end p n k t S e h =
-    record { rows = []; at = k; ends = e ∙ ap (ended p k) (omega arith); same-rows = λ s D. rw (h s); same-at = λ s D. rw (h s) }
+foretold-end : (p : List Line) (n k t : ℕ) (S : Sets) (bus : List ℕ) → walk p n k t S bus ≡ ended p k t → ((s : State) (b : ℕ) → runOn p n k s b ≡ ran k s b []) → Foretold p n k t S bus
+foretold-end p n k t S bus e h =
+    record { rows = []; at = k; ends = e ∙ ap (ended p k) (omega arith); same-rows = λ s b D m. rw (h s b); same-at = λ s b D m. rw (h s b) }
 
-pub walk-sound : (p : List Line) (n k t : ℕ) (S : Sets) → Full S → Passed (walk p n k t S) → Foretold p n k t S
-walk-sound p zero k t S F h = foretold-end p zero k t S (walk-zero p k t S) (run-zero p k)
-walk-sound p (suc n) k t S F h = go (λ k t S F h. walk-sound p n k t S F h) (getElem? p k) refl
+pub walk-sound : (p : List Line) (n k t : ℕ) (S : Sets) (bus : List ℕ) → Full S → Passed (walk p n k t S bus) → Foretold p n k t S bus
+walk-sound p zero k t S bus F h = foretold-end p zero k t S bus (walk-zero p k t S bus) (run-zero p k)
+walk-sound p (suc n) k t S bus F h = go (λ k t S bus F h. walk-sound p n k t S bus F h) (getElem? p k) refl
   where
-    go : ((k t : ℕ) (S : Sets) → Full S → Passed (walk p n k t S) → Foretold p n k t S)
-        → (o : Option Line) → getElem? p k ≡ o → Foretold p (suc n) k t S
-    go later none e = foretold-end p (suc n) k t S (walk-none p (suc n) k t S e) (λ s. stopped p k s e (suc n))
+    go : ((k t : ℕ) (S : Sets) (bus : List ℕ) → Full S → Passed (walk p n k t S bus) → Foretold p n k t S bus)
+        → (o : Option Line) → getElem? p k ≡ o → Foretold p (suc n) k t S bus
+    go later none e = foretold-end p (suc n) k t S bus (walk-none p (suc n) k t S bus e) (λ s b. stopped p k s b e (suc n))
     go later (some l) e =
-        let G = passed-goes p n k t S l e F h in
-        let step = walk-goes p n k t S l e F G in
-        let A = later (next l k (heads S)) (suc t) (onto S l) (onto-full S l F) (subst Passed step h) in
+        let G = passed-goes p n k t S bus l e F h in
+        let step = walk-goes p n k t S bus l e F G in
+        let A = later (next l k (heads S)) (suc t) (onto S l) (buses S bus l) (onto-full S l F) (subst Passed step h) in
         let next-same : (s : State) → Drawn S s → next l k s ≡ next l k (heads S) = λ s D. settled-next S F s D l k (G .settled) in
         let drawn : (s : State) → Drawn S s → Drawn (onto S l) (after l s) = λ s D. onto-drawn S l s F D (G .settled) in
         record {
-          rows = row l k (heads S) ∷ A .rows;
+          rows = row l k (heads S) (getD bus 0 0) ∷ A .rows;
           at = A .at;
           ends = step ∙ A .ends ∙ ap (ended p (A .at)) (omega arith);
-          same-rows = λ s D. rw (step-run p k s l e n, next-same s D, G .same-rows s D, A .same-rows (after l s) (drawn s D));
-          same-at = λ s D. rw (step-run p k s l e n, next-same s D, A .same-at (after l s) (drawn s D));
+          same-rows = λ s b D m. rw (step-run p k s b l e n, next-same s D, G .same-rows s b D m, A .same-rows (after l s) (busAfter l s b) (drawn s D) (in-buses S bus l s b F D m));
+          same-at = λ s b D m. rw (step-run p k s b l e n, next-same s D, A .same-at (after l s) (busAfter l s b) (drawn s D) (in-buses S bus l s b F D m));
         }

@@ -5,7 +5,7 @@ use mathlib.Core.Path.{_≡_}
 use mathlib.Core.Bool.{not}
 use mathlib.Core.List.{List, [], _∷_, flatMap}
 use mathlib.Core.Logic.{_⊎_}
-use Prim.Native.Nat.{ℕ, _*_, _<_}
+use Prim.Native.Nat.{ℕ, _*_, _≤_, _<_}
 use lib.Dec.{T}
 use lib.ListN.{getD, length}
 use Rattle.model.specs.declared.Line.{Line}
@@ -13,7 +13,7 @@ use Rattle.model.specs.declared.Layout.{Layout}
 use Rattle.model.specs.Limits.{stateSize}
 use Rattle.model.specs.Answers.{Report, done, refused}
 use Rattle.model.specs.Places.{State, kind}
-use Rattle.model.specs.Step.{row, result}
+use Rattle.model.specs.Step.{row, result, busAfter}
 use Rattle.model.specs.Run.{Ran, run, answer}
 use Rattle.model.specs.Stored.{codes, lines}
 use Rattle.model.specs.Layouts.{Known}
@@ -21,7 +21,7 @@ use Rattle.model.specs.Code.{code}
 use Rattle.model.specs.Expansion.{expand}
 use Rattle.model.specs.Marks.{Accepted}
 use Rattle.model.specs.Images.{fixed, byKind}
-use Rattle.sets.specs.Walk.{Sets, setWidth, setsOf, sized, values, written, steady, verdictReport}
+use Rattle.sets.specs.Walk.{Sets, maxValues, setWidth, setsOf, sized, values, written, buses, steady, verdictReport}
 
 abbrev pub In : ℕ → List ℕ → Type 0
 In x [] = ⊥
@@ -72,8 +72,8 @@ abbrev pub NoFalseAlarm : Type 0
 NoFalseAlarm = (L : Layout) → Known L → (p : List Line) → Accepted p → (sets : List ℕ) (n : ℕ) → Images L sets
     → Clear (verdictReport (flatMap codes (expand L p)) sets n)
 
--- ---- exact steps: the written set is exactly the results of the states drawn from the sets, and a step leaks exactly where two of them
--- show different rows
+-- ---- exact steps: the written set is exactly the results of the states drawn from the sets, the bus may hold afterwards exactly what it may
+-- hold after one of them, and a step leaks exactly where two of them show different rows
 
 -- each value once
 unfoldable pub Once : List ℕ → Type 0
@@ -86,12 +86,19 @@ pub record Full (S : Sets) : Type 0 where
   pub some-in : (i : ℕ) → i < stateSize → 0 < length (values S i)
   pub once : (i : ℕ) → i < stateSize → Once (values S i)
 
-pub record Exact (S : Sets) (l : Line) (k : ℕ) : Type 0 where
+-- bus lists what the bus may hold before
+pub record Exact (S : Sets) (bus : List ℕ) (l : Line) (k : ℕ) : Type 0 where
   pub all-results : (s : State) → Drawn S s → In (result l s) (written S l)
   pub each-once : Once (written S l)
   pub no-others : (x : ℕ) → In x (written S l) → (s : State) × Drawn S s × (x ≡ result l s)
-  pub like-rows : T (steady S l k) → (s u : State) → Drawn S s → Drawn S u → row l k s ≡ row l k u
-  pub unlike-rows : T (not (steady S l k)) → (s : State) × (u : State) × Drawn S s × Drawn S u × (row l k s ≡ row l k u → ⊥)
+  pub all-buses : (s : State) (b : ℕ) → Drawn S s → In b bus → In (busAfter l s b) (buses S bus l)
+  pub each-bus-once : Once (buses S bus l)
+  pub no-other-buses : (x : ℕ) → In x (buses S bus l) → (s : State) × (b : ℕ) × Drawn S s × In b bus × (x ≡ busAfter l s b)
+  -- the last address is that of one operand, whose base has at most 16 values
+  pub buses-fit : ((i : ℕ) → length (values S i) ≤ maxValues) → length bus ≤ maxValues → length (buses S bus l) ≤ maxValues
+  pub like-rows : T (steady S bus l k) → (s u : State) (b c : ℕ) → Drawn S s → Drawn S u → In b bus → In c bus → row l k s b ≡ row l k u c
+  pub unlike-rows : T (not (steady S bus l k))
+      → (s : State) × (u : State) × (b : ℕ) × (c : ℕ) × Drawn S s × Drawn S u × In b bus × In c bus × (row l k s b ≡ row l k u c → ⊥)
 
 abbrev pub ExactSteps : Type 0
-ExactSteps = (S : Sets) → Full S → (l : Line) (k : ℕ) → Exact S l k
+ExactSteps = (S : Sets) → Full S → (bus : List ℕ) → 0 < length bus → (l : Line) (k : ℕ) → Exact S bus l k

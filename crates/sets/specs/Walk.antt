@@ -15,7 +15,7 @@ use Rattle.model.specs.declared.Line.{Line}
 use Rattle.model.specs.Limits.{stateSize}
 use Rattle.model.specs.Answers.{Report, done, refused, andThen}
 use Rattle.model.specs.Places.{State, kindOf, place}
-use Rattle.model.specs.Step.{Row, meaning, row, result, next}
+use Rattle.model.specs.Step.{Row, meaning, row, result, next, busAfter}
 use Rattle.model.specs.Stored.{lines, programCheck}
 use Rattle.sets.specs.declared.Verdict.{Verdict}
 use Rattle.sets.specs.declared.Verdict.the-variants.{Balanced, Spent, Leak, Refused}
@@ -155,20 +155,33 @@ sameRow [] (y ∷ ys) = false
 sameRow (x ∷ xs) [] = false
 sameRow (x ∷ xs) (y ∷ ys) = eqb x y && sameRow xs ys
 
-unfoldable pub allShow : Line → ℕ → Row → List State → Bool
+-- all these states show that row, the bus holding b
+unfoldable pub allShow : Line → ℕ → Row → ℕ → List State → Bool
 unfolding sameRow row
-allShow l k r [] = true
-allShow l k r (s ∷ ss) = sameRow r (row l k s) && allShow l k r ss
+allShow l k r b [] = true
+allShow l k r b (s ∷ ss) = sameRow r (row l k s b) && allShow l k r b ss
 
--- no two choices give different rows: all give that of the first
-unfoldable pub steady : Sets → Line → ℕ → Bool
-unfolding allShow row choices
-steady S l k = allShow l k (row l k (heads S)) (choices S l)
+-- and so with each of these values on the bus
+unfoldable pub allBuses : Line → ℕ → Row → List ℕ → List State → Bool
+unfolding allShow
+allBuses l k r [] ss = true
+allBuses l k r (b ∷ bs) ss = allShow l k r b ss && allBuses l k r bs ss
+
+-- no two choices, of the places and of the bus, give different rows: all give that of the first. The bus is one more place (request 07),
+-- which every line involves; bus lists its values
+unfoldable pub steady : Sets → List ℕ → Line → ℕ → Bool
+unfolding allBuses row choices
+steady S bus l k = allBuses l k (row l k (heads S) (getD bus 0 0)) bus (choices S l)
 
 -- the written place gets all results; where 21 does not hold, it is one place
 unfoldable pub onto : Sets → Line → Sets
 unfolding written place
 onto S l = set S (place (l .destination) (heads S)) (written S l)
+
+-- and the bus all that it may hold. These are never over 16 (`Exact` in Claims), so 22 does not come of the bus
+unfoldable pub buses : Sets → List ℕ → Line → List ℕ
+unfolding insertAll busAfter choices flatMap
+buses S bus l = distinct (flatMap (λ b. map (λ s. busAfter l s b) (choices S l)) bus)
 
 -- ---- the walk
 
@@ -177,27 +190,27 @@ unfoldable pub ended : List Line → ℕ → ℕ → Verdict
 ended p k t = cond (ltb k (length p)) (Spent k t) (Balanced k t)
 
 -- up to n steps from counter k, t steps being done; at each step 21, then 22, then the leak test
-unfoldable pub walk : List Line → ℕ → ℕ → ℕ → Sets → Verdict
-unfolding unsettled written onto steady next ended
-walk p zero k t S = ended p k t
-walk p (suc n) k t S = elim (getElem? p k) [
+unfoldable pub walk : List Line → ℕ → ℕ → ℕ → Sets → List ℕ → Verdict
+unfolding unsettled written onto buses steady next ended
+walk p zero k t S bus = ended p k t
+walk p (suc n) k t S bus = elim (getElem? p k) [
   | none ↦ ended p k t
   | some l ↦
       cond (unsettled S l) (Refused 21 k)
       (cond (ltb maxValues (length (written S l))) (Refused 22 k)
-      (cond (steady S l k) (walk p n (next l k (heads S)) (suc t) (onto S l))
+      (cond (steady S bus l k) (walk p n (next l k (heads S)) (suc t) (onto S l) (buses S bus l))
       (Leak k t)))
 ]
 
 -- ---- the verdict
 
--- 18 not 544 sets, 22 an empty or longer set, both at line 0, then the walk from line 0
+-- 18 not 544 sets, 22 an empty or longer set, both at line 0, then the walk from line 0, the bus at 0 as in every run
 unfoldable pub judged : List Line → List ℕ → ℕ → Verdict
 unfolding walk sized insertAll
 judged p sets budget =
     cond (eqb (length sets) (setWidth * stateSize))
     (cond (sized stateSize sets)
-    (walk p budget 0 0 (setsOf sets))
+    (walk p budget 0 0 (setsOf sets) (0 ∷ []))
     (Refused 22 0))
     (Refused 18 0)
 

@@ -2,7 +2,7 @@
 -- Assumes nothing.
 use mathlib.Core.Path.{_≡_, refl, sym, ap, ap₂, _∙_}
 use mathlib.Core.Bool.{Bool, true, false, cond}
-use mathlib.Core.List.{List}
+use mathlib.Core.List.{List, [], _∷_}
 use Prim.Native.Nat.{ℕ, suc, _+_, _-_, _*_, _<_, _≤_}
 use native.Mathlib.Omega.{arith}
 use borrow.Author.Tests.{lt-ltb, le-ltb, eq-eqb, ne-eqb}
@@ -21,9 +21,13 @@ use Rattle.sets.specs.declared.Verdict.{Verdict}
 use Rattle.sets.specs.declared.Verdict.the-variants.{Balanced, Spent, Leak, Refused}
 use Rattle.walk.specs.declared.Move.{Move}
 use Rattle.walk.specs.declared.Move.the-variants.{To, Leaks, Refuses}
-use Rattle.sets.specs.Walk.{Sets, maxValues, setWidth, setsOf, sized, heads, unsettled, written, steady, onto, ended, walk, told, judged, verdictReport}
+use Rattle.sets.specs.Walk.{Sets, maxValues, setWidth, setsOf, sized, heads, unsettled, written, steady, onto, buses, ended, walk, told, judged, verdictReport}
 use Rattle.walk.specs.Moves.{moves, verdictOf, refusalOf}
-use Rattle.sets.proofs.Sound.{walk-some, walk-none, walk-zero}
+use Rattle.sets.specs.Claims.{Full}
+use Rattle.sets.specs.Addresses.{leads}
+use Rattle.sets.proofs.Sound.{onto-full, walk-some, walk-none, walk-zero}
+use Rattle.sets.proofs.SameBus.{buses-some, buses-led, walk-same}
+use Rattle.walk.proofs.StepLaws.{leads-some}
 
 -- ---- one step
 
@@ -40,47 +44,52 @@ to-next false true c n j e = let z : _≡_ {A = ℕ} 0 1 = cc in absurd (omega a
 to-next false false true n j e = cc
 to-next false false false n j e = let z : _≡_ {A = ℕ} 0 1 = cc in absurd (omega arith)
 
-pub begins : (p : List Line) (b : ℕ) (S : Sets) → walk p (b - 0) 0 0 S ≡ walk p b 0 0 S
-begins p b S = let z : b - 0 ≡ b = omega arith in rw z
+pub begins : (p : List Line) (b : ℕ) (S : Sets) (bus : List ℕ) → walk p (b - 0) 0 0 S bus ≡ walk p b 0 0 S bus
+begins p b S bus = let z : b - 0 ≡ b = omega arith in rw z
 
-module _ (p : List ℕ) (k t b : ℕ) (S : Sets) where
-  pub spends : k < lineCount p → b ≤ t → Spent k t ≡ walk (lines p) (b - t) k t S
+module _ (p : List ℕ) (k t b : ℕ) (S : Sets) (bus : List ℕ) where
+  pub spends : k < lineCount p → b ≤ t → Spent k t ≡ walk (lines p) (b - t) k t S bus
   unfolding ended
   spends h g =
       let z : b - t ≡ 0 = omega arith in
-      rw (z, walk-zero (lines p) k t S, length-lines p, lt-ltb k (lineCount p) h)
+      rw (z, walk-zero (lines p) k t S bus, length-lines p, lt-ltb k (lineCount p) h)
 
-  pub balances : lineCount p ≤ k → Balanced k t ≡ walk (lines p) (b - t) k t S
+  pub balances : lineCount p ≤ k → Balanced k t ≡ walk (lines p) (b - t) k t S bus
   unfolding ended
-  balances h = rw (walk-none (lines p) (b - t) k t S (no-line p k h), length-lines p, le-ltb k (lineCount p) h)
+  balances h = rw (walk-none (lines p) (b - t) k t S bus (no-line p k h), length-lines p, le-ltb k (lineCount p) h)
 
   module _ (h : k < lineCount p) (g : t < b) where
-    one-step : walk (lines p) (b - t) k t S
-        ≡ verdictOf (moves S (lineAt p k) k) k t (walk (lines p) (b - (t + 1)) (next (lineAt p k) k (heads S)) (t + 1) (onto S (lineAt p k)))
+    abbrev l : Line
+    l = lineAt p k
+
+    -- what is left after the step
+    abbrev later : Verdict
+    later = walk (lines p) (b - (t + 1)) (next l k (heads S)) (t + 1) (onto S l) (buses S bus l)
+
+    one-step : walk (lines p) (b - t) k t S bus ≡ verdictOf (moves S bus l k) k t later
     unfolding moves
     one-step =
         let z : b - t ≡ suc (b - (t + 1)) = omega arith in
         let w : suc t ≡ t + 1 = omega arith in
-        let l = lineAt p k in
-        ap (λ (n : ℕ). walk (lines p) n k t S) z ∙ walk-some (lines p) (b - (t + 1)) k t S l (get-line p k h)
-        ∙ by-move (unsettled S l) (ltb maxValues (length (written S l))) (steady S l k) (next l k (heads S)) k t (walk (lines p) (b - (t + 1)) (next l k (heads S)) (suc t) (onto S l))
-        ∙ ap (λ (n : ℕ). verdictOf (moves S l k) k t (walk (lines p) (b - (t + 1)) (next l k (heads S)) n (onto S l))) w
+        ap (λ (n : ℕ). walk (lines p) n k t S bus) z ∙ walk-some (lines p) (b - (t + 1)) k t S bus l (get-line p k h)
+        ∙ by-move (unsettled S l) (ltb maxValues (length (written S l))) (steady S bus l k) (next l k (heads S)) k t (walk (lines p) (b - (t + 1)) (next l k (heads S)) (suc t) (onto S l) (buses S bus l))
+        ∙ ap (λ (n : ℕ). verdictOf (moves S bus l k) k t (walk (lines p) (b - (t + 1)) (next l k (heads S)) n (onto S l) (buses S bus l))) w
 
-    pub ends : (m : Move) (v : Verdict) → m ≡ moves S (lineAt p k) k → verdictOf m k t (walk (lines p) (b - (t + 1)) (next (lineAt p k) k (heads S)) (t + 1) (onto S (lineAt p k))) ≡ v
-        → v ≡ walk (lines p) (b - t) k t S
-    ends m v e q =
-        sym (one-step ∙ ap (λ (x : Move). verdictOf x k t (walk (lines p) (b - (t + 1)) (next (lineAt p k) k (heads S)) (t + 1) (onto S (lineAt p k)))) (sym e) ∙ q)
+    pub ends : (m : Move) (v : Verdict) → m ≡ moves S bus l k → verdictOf m k t later ≡ v → v ≡ walk (lines p) (b - t) k t S bus
+    ends m v e q = sym (one-step ∙ ap (λ (x : Move). verdictOf x k t later) (sym e) ∙ q)
 
-    goes : (m : Move) (n : ℕ) → m ≡ moves S (lineAt p k) k → m ≡ To n → n ≡ next (lineAt p k) k (heads S)
+    goes : (m : Move) (n : ℕ) → m ≡ moves S bus l k → m ≡ To n → n ≡ next l k (heads S)
     unfolding moves
-    goes m n e q =
-        to-next (unsettled S (lineAt p k)) (ltb maxValues (length (written S (lineAt p k)))) (steady S (lineAt p k) k) n (next (lineAt p k) k (heads S)) (sym q ∙ e)
+    goes m n e q = to-next (unsettled S l) (ltb maxValues (length (written S l))) (steady S bus l k) n (next l k (heads S)) (sym q ∙ e)
 
-    pub goes-on : (m : Move) (n : ℕ) (S′ : Sets) (o : Verdict) → m ≡ moves S (lineAt p k) k → m ≡ To n → S′ ≡ onto S (lineAt p k) → walk (lines p) (b - t) k t S ≡ o
-        → walk (lines p) (b - (t + 1)) n (t + 1) S′ ≡ o
-    goes-on m n S′ o e q s w =
-        rw (goes m n e q, s)
-        (sym (one-step ∙ ap (λ (x : Move). verdictOf x k t (walk (lines p) (b - (t + 1)) (next (lineAt p k) k (heads S)) (t + 1) (onto S (lineAt p k)))) (sym e ∙ q)) ∙ w)
+    -- the bus is listed by the last address
+    pub goes-on : (m : Move) (n : ℕ) (S′ : Sets) (bus′ : List ℕ) (o : Verdict) → m ≡ moves S bus l k → m ≡ To n → S′ ≡ onto S l → bus′ ≡ leads S bus l → Full S → 0 < length bus
+        → walk (lines p) (b - t) k t S bus ≡ o → walk (lines p) (b - (t + 1)) n (t + 1) S′ bus′ ≡ o
+    goes-on m n S′ bus′ o e q s r F some-bus w =
+        rw (goes m n e q, s, r)
+        (walk-same (lines p) (b - (t + 1)) (next l k (heads S)) (t + 1) (onto S l) (leads S bus l) (buses S bus l) (onto-full S l F) (leads-some S bus l F some-bus) (buses-some S F bus l some-bus)
+        (let led = buses-led S F bus l some-bus in (led .1, led .0))
+        ∙ sym (one-step ∙ ap (λ (x : Move). verdictOf x k t later) (sym e ∙ q)) ∙ w)
 
 -- ---- the entry point
 
@@ -102,7 +111,7 @@ module _ (p sets : List ℕ) (b : ℕ) where
 
   -- the verdict by the two tests
   byTests : Bool → Bool → Report
-  byTests x y = told (cond x (cond y (walk (lines p) b 0 0 (setsOf sets)) (Refused 22 0)) (Refused 18 0))
+  byTests x y = told (cond x (cond y (walk (lines p) b 0 0 (setsOf sets) (0 ∷ [])) (Refused 22 0)) (Refused 18 0))
 
   module _ (n : ℕ) (e : programCheck p ≡ counted n) where
     tested : byTests (eqb (length sets) (setWidth * stateSize)) (sized stateSize sets) ≡ verdictReport p sets b
@@ -120,7 +129,7 @@ module _ (p sets : List ℕ) (b : ℕ) where
     unfolding byTests
     no-sizes h g = by true false (eq-eqb (length sets) (setWidth * stateSize) h) g
 
-    pub walks : (v : Verdict) (S : Sets) → length sets ≡ setWidth * stateSize → sized stateSize sets ≡ true → S ≡ setsOf sets → v ≡ walk (lines p) b 0 0 S → told v ≡ verdictReport p sets b
+    pub walks : (v : Verdict) (S : Sets) → length sets ≡ setWidth * stateSize → sized stateSize sets ≡ true → S ≡ setsOf sets → v ≡ walk (lines p) b 0 0 S (0 ∷ []) → told v ≡ verdictReport p sets b
     unfolding byTests
     walks v S h g e q =
-        ap told q ∙ ap (λ (R : Sets). told (walk (lines p) b 0 0 R)) e ∙ by true true (eq-eqb (length sets) (setWidth * stateSize) h) g
+        ap told q ∙ ap (λ (R : Sets). told (walk (lines p) b 0 0 R (0 ∷ []))) e ∙ by true true (eq-eqb (length sets) (setWidth * stateSize) h) g

@@ -1,6 +1,7 @@
 -- What a step of the walk's code answers. Nothing here is for a reader of the promise: proofs/WalkLaws ties it to the walk's definition.
 -- Assumes nothing.
 use mathlib.Core.Bool.{cond}
+use mathlib.Core.List.{List}
 use Prim.Native.Nat.{ℕ}
 use lib.Dec.{ltb}
 use lib.ListN.{length}
@@ -15,12 +16,12 @@ use Rattle.walk.specs.declared.Move.{Move}
 use Rattle.walk.specs.declared.Move.the-variants.{To, Leaks, Refuses}
 
 -- what a step answers: the next counter, or how the walk ends
-unfoldable pub moves : Sets → Line → ℕ → Move
+unfoldable pub moves : Sets → List ℕ → Line → ℕ → Move
 unfolding unsettled written steady next
-moves S l k =
+moves S bus l k =
     cond (unsettled S l) (Refuses 21)
     (cond (ltb maxValues (length (written S l))) (Refuses 22)
-    (cond (steady S l k) (To (next l k (heads S)))
+    (cond (steady S bus l k) (To (next l k (heads S)))
     Leaks))
 
 -- the verdict of a step that ends the walk, else of what follows it

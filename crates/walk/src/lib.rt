@@ -1,21 +1,24 @@
 // Req 01, the verdict on patched listings: a walk over a stored program whose steps work on sets of values. The crate `sets` has the
 // definitions and what a verdict means, `choices` the bytes of sets and what a line does in all states of the sets.
 ghost use mathlib.Core.Path.{_≡_};
-ghost use mathlib.Core.List.{map};
+ghost use mathlib.Core.List.{[], _∷_, map};
 ghost use Prim.Native.Nat.{ℕ, _*_, _<_, _≤_};
 ghost use lib.Dec.{T};
 ghost use lib.ListN.{length, getD};
 ghost use Rattle.model.specs.Limits.{stateSize, lineWidth, maxLines};
 ghost use Rattle.model.specs.Places.{kind};
-ghost use Rattle.model.specs.Step.{meaning};
+ghost use Rattle.model.specs.Step.{meaning, next};
 ghost use Rattle.model.specs.Stored.{operandOf, lineCount, lines};
 ghost use Rattle.machine.specs.Loop.{Weights};
-ghost use Rattle.sets.specs.Walk.{setWidth, maxValues, listed, listsOf, setsOf, sized, values, distinct, heads, branches, loose, unsettled, onto, walk, told, verdictReport};
+ghost use Rattle.sets.specs.Walk.{setWidth, maxValues, listed, listsOf, setsOf, sized, values, distinct, heads, branches, loose, unsettled, written, onto, walk, told, verdictReport};
 ghost use Rattle.sets.specs.Claims.{Full};
+ghost use Rattle.sets.specs.Addresses.{leads};
 ghost use Rattle.choices.specs.Gathering.{lineBy};
 ghost use Rattle.walk.specs.Moves.{moves, refusalOf};
 ghost use Rattle.walk.specs.declared.Move.the-variants.{To};
 use choices::base_of;
+use choices::bus::is_met;
+use choices::bus::lead;
 use choices::bytes::ROOM;
 use choices::bytes::is_overfull;
 use choices::bytes::is_several;
@@ -109,17 +112,41 @@ fn is_unsettled(line: &[u16], sets: &[u8], state: &[u8]) -> bool
     false
 }
 
-// One step on sets. Where the walk goes on, the sets and their first values are those after it.
+// After a line whose results were found: the bus, the written set and its first value; and the next counter.
+fn go_on(
+    line: &[u16; LINE_WIDTH],
+    counter: u16,
+    sets: &mut [u8; SETS_SIZE],
+    state: &mut [u8; STATE_SIZE],
+    bus: &mut [u16; SET_WIDTH],
+    found: &[u8; ROOM],
+) -> u16
+    requires { ⌜ (counter < 65535) × (now state ≡ heads (listsOf (now sets))) × Full (listsOf (now sets)) × (0 < length (listed (now bus))) × (getD (now bus) 0 0 ≤ maxValues) × (getD (now found) 0 0 ≤ maxValues) × (listed (now found) ≡ written (listsOf (now sets)) (lineBy (now line))) ⌝ }
+    ensures { λ r. ⌜ r ≡ next (lineBy (now (line .entry))) counter (heads (listsOf (now (sets .entry)))) ⌝ }
+    ensures { λ r. ⌜ (listsOf (now (sets .exit)) ≡ onto (listsOf (now (sets .entry))) (lineBy (now (line .entry)))) × (now (state .exit) ≡ heads (listsOf (now (sets .exit)))) ⌝ }
+    ensures { λ r. ⌜ (listed (now (bus .exit)) ≡ leads (listsOf (now (sets .entry))) (listed (now (bus .entry))) (lineBy (now (line .entry)))) × (0 < length (listed (now (bus .exit)))) × (getD (now (bus .exit)) 0 0 ≤ maxValues) ⌝ }
+{
+    lead(line, sets, bus);
+    let next = machine::next_of(line[0], line[1], line[3], line[4], line[5], counter, state);
+    let at = machine::place_at(line[2], state);
+    put_set(sets, at, found);
+    machine::write(state, at, found[1]);
+    next
+}
+
+// One step on sets. Where the walk goes on, the sets, their first values and those of the bus are those after it.
 fn step(
     line: &[u16; LINE_WIDTH],
     counter: u16,
     sets: &mut [u8; SETS_SIZE],
     state: &mut [u8; STATE_SIZE],
+    bus: &mut [u16; SET_WIDTH],
     weights: &[u16; PLACES],
 ) -> Move
-    requires { ⌜ (counter < 65535) × (now state ≡ heads (listsOf (now sets))) × Full (listsOf (now sets)) × Weights (now weights) ⌝ }
-    ensures { λ r. ⌜ r ≡ moves (listsOf (now (sets .entry))) (lineBy (now (line .entry))) counter ⌝ }
+    requires { ⌜ (counter < 65535) × (now state ≡ heads (listsOf (now sets))) × Full (listsOf (now sets)) × (0 < length (listed (now bus))) × (getD (now bus) 0 0 ≤ maxValues) × Weights (now weights) ⌝ }
+    ensures { λ r. ⌜ r ≡ moves (listsOf (now (sets .entry))) (listed (now (bus .entry))) (lineBy (now (line .entry))) counter ⌝ }
     ensures { λ r. ⌜ ((n : ℕ) → r ≡ To n → (listsOf (now (sets .exit)) ≡ onto (listsOf (now (sets .entry))) (lineBy (now (line .entry)))) × (now (state .exit) ≡ heads (listsOf (now (sets .exit))))) ⌝ }
+    ensures { λ r. ⌜ ((n : ℕ) → r ≡ To n → (listed (now (bus .exit)) ≡ leads (listsOf (now (sets .entry))) (listed (now (bus .entry))) (lineBy (now (line .entry)))) × (0 < length (listed (now (bus .exit)))) × (getD (now (bus .exit)) 0 0 ≤ maxValues)) ⌝ }
 {
     if is_unsettled(line, sets, state) {
         return Move::Refuses(21);
@@ -143,14 +170,22 @@ fn step(
     if leak {
         return Move::Leaks;
     }
-    let next = machine::next_of(line[0], line[1], line[3], line[4], line[5], counter, state);
-    let at = machine::place_at(line[2], state);
-    put_set(sets, at, &found);
-    machine::write(state, at, found[1]);
-    Move::To(next)
+    if !is_met(line, sets, bus) {
+        return Move::Leaks;
+    }
+    Move::To(go_on(line, counter, sets, state, bus, &found))
 }
 
-// At most `budget` steps on sets of a checked program of `count` lines.
+// What the bus holds at the start of a walk: 0 alone.
+fn first_bus() -> [u16; SET_WIDTH]
+    ensures { λ r. ⌜ (listed r ≡ 0 ∷ []) × (getD r 0 0 ≤ maxValues) ⌝ }
+{
+    let mut bus = [0u16; SET_WIDTH];
+    bus[0] = 1;
+    bus
+}
+
+// At most `budget` steps on sets of a checked program of `count` lines, the bus at 0.
 fn walk_lines(
     program: &[u16],
     count: u16,
@@ -159,9 +194,10 @@ fn walk_lines(
     state: &mut [u8; STATE_SIZE],
 ) -> Verdict
     requires { ⌜ (count ≡ lineCount (now program)) × (count ≤ maxLines) × (now state ≡ heads (listsOf (now sets))) × Full (listsOf (now sets)) ⌝ }
-    ensures { λ r. ⌜ r ≡ walk (lines (now (program .entry))) budget 0 0 (listsOf (now (sets .entry))) ⌝ }
+    ensures { λ r. ⌜ r ≡ walk (lines (now (program .entry))) budget 0 0 (listsOf (now (sets .entry))) (0 ∷ []) ⌝ }
 {
     let weights = machine::all_weights();
+    let mut bus = first_bus();
     let mut counter: u16 = 0;
     let mut steps: u16 = 0;
     while counter < count {
@@ -169,7 +205,7 @@ fn walk_lines(
             return Verdict::Spent { counter, steps };
         }
         let line = coding::numbers_at(program, counter as usize);
-        let moved = step(&line, counter, sets, state, &weights);
+        let moved = step(&line, counter, sets, state, &mut bus, &weights);
         match moved {
             Move::To(next) => {
                 counter = next;

@@ -10,7 +10,7 @@ use lib.ListN.{length, getD, drop}
 use Rattle.model.specs.declared.Line.{Line}
 use Rattle.model.specs.Limits.{stateSize, rowWidth}
 use Rattle.model.specs.Places.{State, place}
-use Rattle.model.specs.Step.{row, result}
+use Rattle.model.specs.Step.{row, distances, result}
 use Rattle.model.specs.Stored.{lineOf}
 use Rattle.machine.specs.declared.Effect.{Effect}
 use Rattle.machine.specs.Loop.{effectOf}
@@ -24,14 +24,14 @@ use Rattle.choices.proofs.visit.Statement.{statement}
 use Rattle.choices.proofs.visit.Tie as tie
 
 -- the effect of a line turns neither on its target nor on how the state is given
-effect-row : (n : List ℕ) (k : ℕ) (s t : State) (e : Effect) → s ≡ t → e ≡ effectOf (lineOf (getD n 0 0) (getD n 1 0) (getD n 2 0) (getD n 3 0) (getD n 4 0) 0) k s
-    → e ≡ effectOf (lineBy n) k t
-unfolding row result
+effect-row : (n : List ℕ) (k : ℕ) (s t : State) (e : Effect) → s ≡ t → e ≡ effectOf (lineOf (getD n 0 0) (getD n 1 0) (getD n 2 0) (getD n 3 0) (getD n 4 0) 0) k s 0
+    → e ≡ effectOf (lineBy n) k t 0
+unfolding row distances result
 effect-row n k s t e es ee = rw es at ee
 
 module _ (n : List ℕ) (k : ℕ) (b : List ℕ) (s : State) (f f′ r r′ : List ℕ) (leak : Bool) (e : Effect) (es : s ≡ heads (listsOf b)) (Z : Settled (listsOf b) (lineBy n) argumentPlaces)
     (lf : length f ≡ suc setWidth) (hf : getD f 0 0 ≤ maxValues) (lr′ : length r′ ≡ rowWidth)
-    (ee : e ≡ effectOf (lineOf (getD n 0 0) (getD n 1 0) (getD n 2 0) (getD n 3 0) (getD n 4 0) 0) k s)
+    (ee : e ≡ effectOf (lineOf (getD n 0 0) (getD n 1 0) (getD n 2 0) (getD n 3 0) (getD n 4 0) 0) k s 0)
     (ek : r′ ≡ cond (eqb (getD f 0 0) 0) (e .row) r) (en : listed f′ ≡ insert (listed f) (e .result)) where
   abbrev S : Sets
   S = listsOf b
@@ -42,13 +42,13 @@ module _ (n : List ℕ) (k : ℕ) (b : List ℕ) (s : State) (f f′ r r′ : Li
   abbrev before : Gathered
   before = gathered (listed f) leak r
 
-  whole : e ≡ effectOf l k (heads S)
+  whole : e ≡ effectOf l k (heads S) 0
   whole = effect-row n k s (heads S) e es ee
 
   size : length (listed f) ≡ getD f 0 0
   size = listed-few f setWidth lf (omega arith)
 
-  first : r′ ≡ firstRow before (row l k (heads S))
+  first : r′ ≡ firstRow before (row l k (heads S) 0)
   first = ek ∙ ap₂ (λ (m : ℕ) (q : List ℕ). cond (eqb m 0) q r) (sym size) (ap (λ (x : Effect). x .row) whole)
 
   all : visitedAll l k before (draw S (drop argumentPlaces (involved l))) ≡ noted before (e .result) (alike r′ (e .row) (e .result) (values S (e .place))) r′
@@ -71,6 +71,9 @@ module _ (n : List ℕ) (k : ℕ) (b : List ℕ) (s : State) (f f′ r r′ : Li
       → gathered (listed f′) (not a) r′ ≡ visitedAll l k before (draw S (drop argumentPlaces (involved l)))
   compared h t {a} ea = few h (not a) (rw t (ap not ea))
 
+kept-first : (a : Bool) (r xs ys : List ℕ) → r ≡ cond a xs ys → a ≡ true → r ≡ xs
+kept-first a r xs ys q e = q ∙ rw e
+
 shared-slice-read-effect-of : tie.Need-shared-slice-read-effect-of
 shared-slice-read-effect-of c = search needs
 
@@ -87,13 +90,13 @@ shared-slice-read-effect-of-5 : tie.Need-shared-slice-read-effect-of-5
 shared-slice-read-effect-of-5 c = search needs
 
 effect-of-requires : tie.Need-effect-of-requires
-effect-of-requires c κs = c .before .before .before .before .before .before .before .before .before .before .pre .7
+effect-of-requires c κs = (c .before .before .before .before .before .before .before .before .before .before .pre .7, omega arith)
 
 slice-aggregate-keep-row : tie.Need-slice-aggregate-keep-row
 slice-aggregate-keep-row c = search needs
 
-slice-read-keep-row : tie.Need-slice-read-keep-row
-slice-read-keep-row c = search needs
+slice-read-first : tie.Need-slice-read-first
+slice-read-first c = search needs
 
 keep-row-requires : tie.Need-keep-row-requires
 keep-row-requires c κs = search needs
@@ -140,7 +143,7 @@ returns-2 c =
     (leaked (x .line .now) (x .counter) (x .sets .now) (x .state .now) (x .found .now) (t .last .0) (x .row .now) (q .last .0) (x .leak) (e .result) (p .3) (p .6) (p .4) (p .5) (q .kept .0 ∙ p .1) (e .ensures) (q .ensures) (t .ensures .0) (sym (o .ensures) ∙ i1 .left) (i2 .taken), t .ensures .1)
 
 is-alike-requires : tie.Need-is-alike-requires
-is-alike-requires c κs = search needs
+is-alike-requires c κs = (c .before .before .before .before .before .before .before .before .before .before .before .keep-row .kept .0 ∙ c .before .before .before .before .before .before .before .before .before .before .before .before .before .before .before .before .before .before .before .before .before .before .before .before .before .before .before .pre .1, kept-first _ _ _ _ (c .before .before .before .before .before .before .before .before .before .before .before .keep-row .ensures), c .before .before .before .before .before .before .before .before .before .before .before .before .before .before .before .before .before .before .before .before .before .before .before .before .before .before .before .pre .2, c .before .before .before .before .before .before .before .before .before .before .before .before .before .before .before .before .before .before .before .before .before .before .before .before .before .before .before .pre .7)
 
 same-length-5 : tie.Need-same-length-5
 same-length-5 c = search needs
@@ -171,8 +174,8 @@ visit-spec =
     shared-slice-read-effect-of-4
     shared-slice-read-effect-of-5
     effect-of-requires
+    slice-read-first
     slice-aggregate-keep-row
-    slice-read-keep-row
     keep-row-requires
     note-requires
     is-overfull-requires

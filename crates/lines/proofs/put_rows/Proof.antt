@@ -14,7 +14,7 @@ use Rattle.lines.proofs.put_rows.Statement.{statement}
 use Rattle.lines.proofs.put_rows.Tie as tie
 
 abbrev Inv-loop : tie.InvT-loop
-Inv-loop out₀ at rows n next₀ k₀ out next k = (Left out₀ out at next (rowsText (length rows / rowWidth) rows) (rowsText (length rows / rowWidth - k) (drop (rowWidth * k) rows))) × (next ≤ at + 36 * k) × (k ≤ length rows / rowWidth)
+Inv-loop out₀ at rows n next₀ k₀ out next k = (Left out₀ out at next (rowsText (length rows / rowWidth) rows) (rowsText (length rows / rowWidth - k) (drop (rowWidth * k) rows))) × (next ≤ at + 6 * (rowWidth * k)) × (k ≤ length rows / rowWidth)
 
 abbrev μ-loop : tie.MeasureT-loop
 μ-loop out₀ at rows n next₀ k₀ out next k = length rows / rowWidth - k

@@ -1,4 +1,4 @@
--- `machine::distance` meets its contract: a byte has at most 8 ones. Assumes nothing.
+-- `machine::distance` meets its contract: a number of 16 bits has at most 16 ones. Assumes nothing.
 use native.Mathlib.Omega.{arith}
 use lib.Bits.{xor-lt}
 use lib.Count.{ones-le}
@@ -8,7 +8,7 @@ use Rattle.machine.proofs.distance.Statement.{statement}
 use Rattle.machine.proofs.distance.Tie as tie
 
 cast-result : tie.Need-cast-result
-cast-result c = omega (arith, ones-le 8 _ (xor-lt 8 _ _ (c .fits .x .fits) (c .fits .y .fits)))
+cast-result c = omega (arith, ones-le 16 _ (xor-lt 16 _ _ (c .fits .x .fits) (c .fits .y .fits)))
 
 returns : tie.Need-returns
 unfolding distance

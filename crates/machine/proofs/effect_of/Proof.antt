@@ -7,14 +7,16 @@ use borrow.Author.Needs.{needs}
 use Rattle.model.specs.declared.Mark.{Mark}
 use Rattle.model.specs.declared.Opcode.{Opcode}
 use Rattle.model.specs.declared.Line.{Line}
-use Rattle.model.specs.Places.{State, place, address}
+use Rattle.model.specs.Places.{State, place}
 use Rattle.model.specs.Stored.{opcodeOf, lineOf}
-use Rattle.model.specs.Step.{weight, alu, result, row}
+use Rattle.model.specs.Step.{alu, result}
 use Rattle.machine.specs.declared.Arguments.{Arguments}
 use Rattle.machine.specs.declared.Effect.{Effect}
 use Rattle.machine.specs.declared.Fetched.{Fetched}
-use Rattle.machine.specs.Loop.{fetchOf, argumentsOf, addressAt, rowOf, effectOf}
-use Rattle.machine.proofs.NamedPlaces.{place-most, fetched-most, address-at, arguments-read}
+use Rattle.machine.specs.declared.OnBus.{OnBus}
+use Rattle.machine.specs.Loop.{fetchOf, argumentsOf, onBusAt, rowOf, effectOf}
+use Rattle.machine.proofs.NamedPlaces.{place-most, fetched-most, cell-by, fetched-by, arguments-read}
+use Rattle.machine.proofs.RowsRead.{Stands, stands, row-read}
 use Rattle.machine.proofs.effect_of.Statement.{statement}
 use Rattle.machine.proofs.effect_of.Tie as tie
 
@@ -22,23 +24,19 @@ abbrev effect : ℕ → ℕ → List ℕ → Effect
 effect r q t = record { result = r; place = q; row = t }
 
 -- what a line does, over plain values
-worked : (l : Line) (k : ℕ) (s : State) (m : Mark) (p : Opcode) (x y : Fetched) (z : Arguments) (q r o : ℕ) (t : List ℕ)
+worked : (l : Line) (k : ℕ) (s : State) (bus : ℕ) (m : Mark) (p : Opcode) (x y : Fetched) (z : Arguments) (q r o : ℕ) (u v w : OnBus) (t : List ℕ)
     → m ≡ l .mark → p ≡ l .opcode → x ≡ fetchOf (l .first) s → y ≡ fetchOf (l .second) s → z ≡ argumentsOf m x y
     → r ≡ alu m p (z .first) (z .second) → q ≡ place (l .destination) s → o ≡ getD s q 0
-    → addressAt (place (l .first) s) ≡ address (l .first) s → addressAt (place (l .second) s) ≡ address (l .second) s
-    → addressAt (place (l .destination) s) ≡ address (l .destination) s → t ≡ rowOf k o r (x .at) (y .at) q
-    → effect r q t ≡ effectOf l k s
-unfolding row result
-worked l k s m p x y z q r o t em ep ex ey ez er eq eo ax ay aq et =
+    → Stands (l .first) s → Stands (l .second) s → Stands (l .destination) s
+    → u ≡ onBusAt (x .at) bus → v ≡ onBusAt (y .at) (u .bus) → w ≡ onBusAt q (v .bus) → t ≡ rowOf k o r u v w
+    → effect r q t ≡ effectOf l k s bus
+unfolding result
+worked l k s bus m p x y z q r o u v w t em ep ex ey ez er eq eo ax ay aq eu ev ew et =
     let ab = arguments-read m (l .first) (l .second) s x y z ex ey ez in
     let a = ab .0 in
     let b = ab .1 in
-    let v : weight (addressAt (x .at)) ≡ weight (address (l .first) s) = rw (ex, ax) in
-    let w : weight (addressAt (y .at)) ≡ weight (address (l .second) s) = rw (ey, ay) in
-    let f : weight (addressAt q) ≡ weight (address (l .destination) s) = rw (eq, aq) in
-    let er : r ≡ result l s = cc in
-    let et : t ≡ row l k s = cc in
-    rw (er, eq, et)
+    let is : r ≡ result l s = cc in
+    rw (is, eq, row-read l k s bus x y q r o u v w t ex ey eq eo is ax ay aq eu ev ew et)
 
 mark-of-requires : tie.Need-mark-of-requires
 mark-of-requires c κs = search needs
@@ -61,26 +59,26 @@ place-at-requires c κs = search needs
 read-requires : tie.Need-read-requires
 read-requires c κs = search needs
 
+put-on-bus-requires : tie.Need-put-on-bus-requires
+put-on-bus-requires c κs = (c .before .before .before .pre .0, fetched-most (c .before .before .before .args .state .now) (c .before .before .before .args .a) _ (c .fetch .ensures), fetched-by (c .before .before .before .args .state .now) (c .before .before .before .args .a) _ (c .fetch .ensures), c .before .before .before .pre .1)
+
+put-on-bus-requires-2 : tie.Need-put-on-bus-requires-2
+put-on-bus-requires-2 c κs = (c .before .before .before .before .before .pre .0, fetched-most (c .before .before .before .before .before .args .state .now) (c .before .before .before .before .before .args .b) _ (c .fetch2 .ensures), fetched-by (c .before .before .before .before .before .args .state .now) (c .before .before .before .before .before .args .b) _ (c .fetch2 .ensures), c .before .put-on-bus .ensures .1)
+
+put-on-bus-requires-3 : tie.Need-put-on-bus-requires-3
+put-on-bus-requires-3 c κs = (c .before .before .before .before .before .before .before .before .before .pre .0, rw (c .place-at .ensures) (place-most (c .before .before .before .before .before .before .before .before .before .args .state .now) (c .before .before .before .before .before .before .before .before .before .args .d)), rw (c .place-at .ensures) (cell-by (c .before .before .before .before .before .before .before .before .before .args .state .now) (c .before .before .before .before .before .before .before .before .before .args .d)), c .before .before .before .put-on-bus2 .ensures .1)
+
 row-of-requires : tie.Need-row-of-requires
-row-of-requires c κs =
-    let s = c .before .before .before .before .before .before .before .before .args in
-    (c .before .before .before .before .before .before .before .before .pre, fetched-most (s .state .now) (s .a) _ (c .before .before .before .before .before .fetch .ensures), fetched-most (s .state .now) (s .b) _ (c .before .before .before .before .fetch2 .ensures), rw (c .before .place-at .ensures) (place-most (s .state .now) (s .d)))
+row-of-requires c κs = c .before .before .before .before .before .before .before .before .before .before .before .pre .0
 
 returns : tie.Need-returns
 returns c =
-    let o = c .before in
-    let q = o .before in
-    let r = q .before in
-    let z = r .before in
-    let y = z .before in
-    let x = y .before in
-    let m = x .before in
-    let s = m .before .before in
-    worked (lineOf (s .args .m) (s .args .o) (s .args .d) (s .args .a) (s .args .b) 0) (s .args .counter) (s .args .state .now)
-    (m .mark-of .result) (opcodeOf (s .args .o)) (x .fetch .result) (y .fetch2 .result) (z .read-arguments .result) (q .place-at .result) _ _ (c .row-of .result)
-    (m .mark-of .ensures) refl (x .fetch .ensures) (y .fetch2 .ensures) (z .read-arguments .ensures) (r .alu .ensures)
-    (q .place-at .ensures) (o .read .ensures)
-    (address-at _ (s .args .a)) (address-at _ (s .args .b)) (address-at _ (s .args .d)) (c .row-of .ensures)
+    let a = c .before .before .before .before .before .before .before .before .before .before .before .before .args in
+    worked (lineOf (a .m) (a .o) (a .d) (a .a) (a .b) 0) (a .counter) (a .state .now) (a .bus)
+    (c .before .before .before .before .before .before .before .before .before .before .mark-of .result) (opcodeOf (a .o)) (c .before .before .before .before .before .before .before .before .before .fetch .result) (c .before .before .before .before .before .before .before .fetch2 .result) (c .before .before .before .before .before .read-arguments .result) (c .before .before .before .place-at .result) _ _ (c .before .before .before .before .before .before .before .before .put-on-bus .result) (c .before .before .before .before .before .before .put-on-bus2 .result) (c .before .before .put-on-bus3 .result) (c .row-of .result)
+    (c .before .before .before .before .before .before .before .before .before .before .mark-of .ensures) refl (c .before .before .before .before .before .before .before .before .before .fetch .ensures) (c .before .before .before .before .before .before .before .fetch2 .ensures) (c .before .before .before .before .before .read-arguments .ensures) (c .before .before .before .before .alu .ensures) (c .before .before .before .place-at .ensures) (c .before .read .ensures)
+    (stands (a .a) (a .state .now)) (stands (a .b) (a .state .now)) (stands (a .d) (a .state .now))
+    (c .before .before .before .before .before .before .before .before .put-on-bus .ensures .0) (c .before .before .before .before .before .before .put-on-bus2 .ensures .0) (c .before .before .put-on-bus3 .ensures .0) (c .row-of .ensures)
 
 pub effect-of-spec : {M : Type 1} → statement M
 effect-of-spec =
@@ -88,10 +86,13 @@ effect-of-spec =
     (tie.spec
     mark-of-requires
     fetch-requires
+    put-on-bus-requires
     fetch-requires-2
+    put-on-bus-requires-2
     read-arguments-requires
     alu-requires
     place-at-requires
+    put-on-bus-requires-3
     read-requires
     row-of-requires
     returns)

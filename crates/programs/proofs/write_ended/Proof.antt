@@ -4,6 +4,7 @@ use mathlib.Core.Path.{sym}
 use Prim.Native.Nat.{_*_}
 use native.Mathlib.Omega.{arith}
 use lib.Seq.{length-take-le}
+use Rattle.model.specs.Limits.{rowWidth}
 use Rattle.programs.specs.Running.{endedText}
 use Rattle.programs.proofs.write_ended.Statement.{statement}
 use Rattle.programs.proofs.write_ended.Tie as tie
@@ -18,7 +19,7 @@ slice-aggregate-write-lines-2 : tie.Need-slice-aggregate-write-lines-2
 slice-aggregate-write-lines-2 c = search needs
 
 write-lines-requires : tie.Need-write-lines-requires
-write-lines-requires c κs = let e = length-take-le (6 * c .before .before .before .before .before .before .args .steps) (c .before .before .before .before .before .before .args .trace .now) (c .before .before .before .before .before .before .pre .1) in (omega arith, omega (arith, e, c .before .before .before .before .before .before .pre .0, c .before .before .before .before .before .before .pre .1, c .before .before .before .before .before .before .pre .2))
+write-lines-requires c κs = let e = length-take-le (rowWidth * c .before .before .before .before .before .before .args .steps) (c .before .before .before .before .before .before .args .trace .now) (c .before .before .before .before .before .before .pre .1) in (omega arith, omega (arith, e, c .before .before .before .before .before .before .pre .0, c .before .before .before .before .before .before .pre .1, c .before .before .before .before .before .before .pre .2))
 
 same-length : tie.Need-same-length
 same-length c = search needs

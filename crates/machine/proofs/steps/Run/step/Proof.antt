@@ -8,7 +8,7 @@ use borrow.Author.Needs.{needs}
 use Rattle.model.specs.declared.Line.{Line}
 use Rattle.model.specs.Places.{State}
 use Rattle.model.specs.Stored.{lineOf, lineAt}
-use Rattle.model.specs.Step.{Row, next, after, row}
+use Rattle.model.specs.Step.{Row, next, after, busAfter, row}
 use Rattle.coding.specs.Fields.{numbersAt}
 use Rattle.machine.specs.declared.steps.Run.{Run}
 use Rattle.machine.specs.Loop.{machine, putRow, stepBy}
@@ -20,10 +20,10 @@ same-line : (n p : List ℕ) (i : ℕ) → n ≡ numbersAt p i → lineOf (getD 
 same-line n p i e = rw e
 
 -- a step, over plain values
-one-step : (l l′ : Line) (r : Run) (s s′ : State) (t t′ : List ℕ) (n : ℕ) (w : Row) → l ≡ l′ → n ≡ next l (r .counter) s → w ≡ row l (r .counter) s → s′ ≡ after l s
-    → t′ ≡ putRow t (r .steps) w → machine (record { counter = n; steps = r .steps + 1 }) s′ t′ ≡ stepBy l′ (machine r s t)
+one-step : (l l′ : Line) (r : Run) (s s′ : State) (t t′ : List ℕ) (n b : ℕ) (w : Row) → l ≡ l′ → n ≡ next l (r .counter) s → w ≡ row l (r .counter) s (r .bus)
+    → b ≡ busAfter l s (r .bus) → s′ ≡ after l s → t′ ≡ putRow t (r .steps) w → machine (record { counter = n; steps = r .steps + 1; bus = b }) s′ t′ ≡ stepBy l′ (machine r s t)
 unfolding stepBy
-one-step l l′ r s s′ t t′ n w el en ew es et = cc
+one-step l l′ r s s′ t t′ n b w el en ew eb es et = cc
 
 cast-numbers-at : tie.Need-cast-numbers-at
 cast-numbers-at c = search needs
@@ -50,7 +50,7 @@ array-read-perform-6 : tie.Need-array-read-perform-6
 array-read-perform-6 c = search needs
 
 perform-requires : tie.Need-perform-requires
-perform-requires c κs = (search needs, c .before .before .before .before .before .pre .0, c .before .before .before .before .before .pre .1)
+perform-requires c κs = let p = c .before .before .before .before .before .pre in (p .2, p .0, p .1, p .4)
 
 cast-write-row : tie.Need-cast-write-row
 cast-write-row c = search needs
@@ -58,8 +58,8 @@ cast-write-row c = search needs
 write-row-requires : tie.Need-write-row-requires
 write-row-requires c κs = search needs
 
-add-t31 : tie.Need-add-t31
-add-t31 c = search needs
+add-t32 : tie.Need-add-t32
+add-t32 c = search needs
 
 same-length : tie.Need-same-length
 same-length c = search needs
@@ -69,10 +69,11 @@ same-length-2 c = search needs
 
 returns : tie.Need-returns
 returns c =
-    let x = c .before .before .before .before .before .before .before .before .before .before .before .before .before .args in
-    let f = c .before .before .before .before .before .before .before .perform in
-    one-step _ (lineAt (x .program .now) (x .self .counter)) (x .self) (x .state .now) _ (x .trace .now) _ (f .result .next) (f .result .row)
-    (same-line _ (x .program .now) (x .self .counter) (c .before .before .before .before .before .before .before .before .before .numbers-at .ensures)) (f .ensures .0 .0) (f .ensures .0 .1) (f .ensures .1) (c .before .before .write-row .ensures)
+    let a = c .before .before .before .before .before .before .before .before .before .before .before .before .before .args in (
+      one-step _ (lineAt (a .program .now) (a .self .counter)) (a .self) (a .state .now) _ (a .trace .now) _ (c .before .before .before .before .before .before .before .perform .result .next) (c .before .before .before .before .before .before .before .perform .result .bus) (c .before .before .before .before .before .before .before .perform .result .row)
+          (same-line _ (a .program .now) (a .self .counter) (c .before .before .before .before .before .before .before .before .before .numbers-at .ensures)) (c .before .before .before .before .before .before .before .perform .ensures .0 .0) (c .before .before .before .before .before .before .before .perform .ensures .0 .1) (c .before .before .before .before .before .before .before .perform .ensures .1 .0 .0) (c .before .before .before .before .before .before .before .perform .ensures .1 .1) (c .before .before .write-row .ensures),
+      c .before .before .before .before .before .before .before .perform .ensures .1 .0 .1,
+    )
 
 pub step-spec : {M : Type 1} → statement M
 step-spec =
@@ -89,7 +90,7 @@ step-spec =
     perform-requires
     cast-write-row
     write-row-requires
-    add-t31
+    add-t32
     same-length
     same-length-2
     returns)
