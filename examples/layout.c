@@ -6,7 +6,7 @@
 #include <stdlib.h>
 
 /* One line more than an accepted program has, so that a longer one is told by 9. */
-enum { LINES = 1025, WIDTH = 6, LONGEST = 17 };
+enum { LINES = 1025, WIDTH = 6, LONGEST = 18 };
 
 static uint8_t text[LONGEST * LINES * 34];
 static uint16_t program[WIDTH * LINES], expansion[LONGEST * WIDTH * LINES];

@@ -7,7 +7,7 @@
 #include <stdlib.h>
 #include <string.h>
 
-enum { LINES = 409, WIDTH = 6, TARGET = 5, LONGEST = 17, STATE = 544, ROW = 6, BUDGET = 65535 };
+enum { LINES = 409, WIDTH = 6, TARGET = 5, LONGEST = 18, STATE = 544, ROW = 9, BUDGET = 65535 };
 
 /* The source line of the move, between the marked lines of a round and those of its key; and places: r4 counts rounds, the text begins at
  * cell 128, the key at cell 192. */

@@ -4,7 +4,7 @@
  * touched; an empty slice may have any pointer. The slices of one call must not overlap. Lengths count elements. docs/STORED-LINES.md
  * lays down the numbers of a stored line, docs/LANGUAGE.md lists the refusals.
  *
- * Room that is always enough: 17 lines of expansion for each line, 34 bytes of text for each line, 6 numbers of trace for each step of
+ * Room that is always enough: 18 lines of expansion for each line, 34 bytes of text for each line, 9 numbers of trace for each step of
  * the budget. A state has 544 bytes. Sets of values have 17 bytes for each place, in the order of the state: a count, 1 to 16, the values,
  * the rest ignored.
  *
@@ -54,7 +54,7 @@ uint64_t dualrail_from_image(uint8_t position, uint8_t spacing, const uint8_t *i
 uint64_t dualrail_move_image(uint8_t old_position, uint8_t old_spacing, uint8_t new_position, uint8_t new_spacing,
                              const uint8_t *from, size_t from_length, uint8_t *into, size_t into_length);
 
-/* Runs a stored program from a start counter with a budget of steps, changes the state and writes a row of six numbers for each step.
+/* Runs a stored program from a start counter with a budget of steps, changes the state and writes a row of nine numbers for each step.
  * Refusals 7, 3 to 6, 18, 20. */
 uint64_t dualrail_run(const uint16_t *program, size_t program_length, uint16_t start, uint16_t budget, uint8_t *state,
                       size_t state_length, uint16_t *trace, size_t trace_length);

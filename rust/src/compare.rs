@@ -11,8 +11,10 @@ use crate::random::Random;
 use std::collections::BTreeSet;
 use std::panic::{catch_unwind, AssertUnwindSafe};
 
+pub mod bus;
 pub mod jumps;
 pub mod moves;
+use bus::Bus;
 use jumps::Jumps;
 use moves::Moves;
 
@@ -149,9 +151,10 @@ pub struct Counts {
     pub public_bits: u64,
     /// Walks of their expansions on the images of each layout: balanced, spent.
     pub image_walks: [[u64; 2]; 6],
-    /// Of programs full of jumps, and of moves.
+    /// Of programs full of jumps, of moves, and of the bus.
     pub jumps: Jumps,
     pub moves: Moves,
+    pub bus: Bus,
 }
 
 /// Which of the six a layout is.
@@ -247,7 +250,7 @@ impl Counts {
             );
         }
         shown += &format!("\nimages refused that another layout takes: {}", self.other_images);
-        shown + &self.jumps.show() + &self.moves.show()
+        shown + &self.jumps.show() + &self.moves.show() + &self.bus.show()
     }
 }
 
@@ -413,7 +416,7 @@ impl Comparison<'_> {
         if case % 25 == 0 {
             return self.long(case / 25);
         }
-        match self.rng.below(17) {
+        match self.rng.below(19) {
             0..=3 => {
                 let lines = make::accepted_program(&mut self.rng);
                 self.whole_way(&lines)
@@ -424,6 +427,7 @@ impl Comparison<'_> {
             11 => self.first_step(),
             12 => self.jumps(),
             13..=14 => self.moves(),
+            15..=16 => self.bus(),
             _ => self.walks(),
         }
     }
@@ -492,6 +496,8 @@ impl Comparison<'_> {
             0 => self.rng.below(ROW * budget + 1),
             1 => (ROW * budget).saturating_sub(1),
             2 => ROW * budget + self.rng.below(20),
+            // What the rows of before request 07 need, and those of one distance less.
+            3 => self.rng.pick(&[6, 8]) * budget,
             _ => ROW * budget,
         };
         self.run(program, (start, budget), &state, room)?;
@@ -567,8 +573,8 @@ impl Comparison<'_> {
         Ok(())
     }
 
-    /// The verdict on one step, where the places are still independent, is exact: a leak
-    /// just where two of all the states that the sets allow give different rows.
+    /// The verdict on one step, where the places are still independent and the bus is at 0, is exact:
+    /// a leak just where two of all the states that the sets allow give different rows.
     fn first_step(&mut self) -> Result<(), String> {
         let (lines, sets) = make::small_walk(&mut self.rng);
         let program = make::stored(&lines);
@@ -843,6 +849,9 @@ impl Comparison<'_> {
         let mut sensitive = (0..STATE).filter(|&place| paper::kind_of_place(place) == Kind::Sensitive);
         way.must(sensitive.all(|place| source[place] <= 1), "the source's state is no bit state")?;
         let public_bits = done.iter().filter(|&&line| make::has_public_bit(&way.lines[line])).count();
+        for &line in &done {
+            self.counts.bus.add_table(which(way.layout), &way.lines[line]);
+        }
         self.counts.followed_steps += done.len() as u64;
         self.counts.public_bits += public_bits as u64;
         Ok(())

@@ -8,6 +8,7 @@ use crate::paper::{
 };
 use crate::random::Random;
 
+pub mod bus;
 pub mod moves;
 
 // ---------------------------------------------------------------- layouts
@@ -190,8 +191,8 @@ pub fn part_length(layout: Layout, line: &Line) -> usize {
         _ if !line.marked => 1,
         Opcode::Not => 5 + 2 * public.count(),
         Opcode::Mov => 4 + 2 * public.count(),
-        _ if layout.is_spaced() => 12 + 2 * public.count(),
-        _ => 13 + 2 * public.count(),
+        _ if layout.is_spaced() => 13 + 2 * public.count(),
+        _ => 14 + 2 * public.count(),
     }
 }
 

@@ -12,14 +12,14 @@ pub mod walk;
 pub const STATE: usize = 32 + 512;
 /// Where the table page begins in a state.
 pub const PAGE: usize = 32 + 256;
-/// Numbers of a stored line, and of a trace row.
+/// Numbers of a stored line, and of a trace row. Request 07: nine, where document 01 has six.
 pub const SIX: usize = 6;
-pub const ROW: usize = 6;
+pub const ROW: usize = 9;
 /// Most lines of any program, of one for the mark check, and of a line's part of an expansion.
-/// Request 03: 32,768 and 17, where document 01 has 16,384 and 13.
+/// Request 03: 32,768, where document 01 has 16,384; request 07: 18, where it has 13.
 pub const MOST_LINES: usize = 32_768;
 pub const MOST_CHECKED: usize = 1_024;
-pub const LONGEST: usize = 17;
+pub const LONGEST: usize = 18;
 /// Most bytes of a program's text: the longest line has 33 and its newline.
 pub const MOST_BYTES: usize = 34 * MOST_LINES;
 
@@ -379,7 +379,8 @@ pub fn is_public(operand: Operand) -> bool {
     kind(operand) == Some(Kind::Public)
 }
 
-fn base(operand: Operand) -> Option<u8> {
+/// The base register of an indirect operand.
+pub fn base(operand: Operand) -> Option<u8> {
     match operand {
         Public { base, .. } | Sensitive { base, .. } | Table { base, .. } => Some(base),
         _ => None,
@@ -464,9 +465,11 @@ fn load(x: u8, argument: Operand) -> Vec<Line> {
 }
 
 /// The macro of and, orr and xor, whose tables are numbers 0 to 2. Request 04: the mask and the table's
-/// start are the layout's, and so is how often the first code is shifted.
+/// start are the layout's, and so is how often the first code is shifted. Request 07: the table's first
+/// cell, which is 0, is read before the lookup and after it, so that no other address is beside the entry's.
 fn table_macro(layout: Layout, table: u8, d: Operand, a: Operand, b: Operand) -> Vec<Line> {
     let mask = Literal(layout.mask());
+    let in_table = |base: u8| Table { base, offset: layout.table(table) };
     [
         vec![mov(R1, R0)],
         load(1, a),
@@ -477,8 +480,9 @@ fn table_macro(layout: Layout, table: u8, d: Operand, a: Operand, b: Operand) ->
         vec![
             with(And, R2, mask),
             with(Orr, R1, R2),
-            mov(R3, R0),
-            mov(R3, Table { base: 1, offset: layout.table(table) }),
+            mov(R3, in_table(0)),
+            mov(R3, in_table(1)),
+            mov(R2, in_table(0)),
             mov(d, R0),
             mov(d, R3),
         ],
@@ -622,12 +626,23 @@ fn place(operand: Operand, state: &[u8]) -> Option<usize> {
     }
 }
 
-/// The ones in an operand's address, 0 where it has none.
-fn address_ones(operand: Option<Operand>, state: &[u8]) -> u16 {
-    match operand.and_then(|operand| place(operand, state)) {
-        Some(place) if place >= 32 => (place - 32).count_ones() as u16,
-        _ => 0,
-    }
+/// An operand's address, a cell's number; a register, a literal and an empty field have none.
+pub fn address(operand: Option<Operand>, state: &[u8]) -> Option<u16> {
+    let cell = place(operand?, state)?.checked_sub(32)?;
+    Some(cell as u16)
+}
+
+/// The ones in an address, 0 where there is none.
+fn ones(address: Option<u16>) -> u16 {
+    address.map_or(0, |address| address.count_ones() as u16)
+}
+
+/// Request 07: an address goes on the bus, which holds the one before it. Gives the bits in which they
+/// differ; where there is no address, 0, and the bus is left as it is.
+fn put_on(bus: &mut u16, address: Option<u16>) -> u16 {
+    let before = *bus;
+    *bus = address.unwrap_or(before);
+    (before ^ *bus).count_ones() as u16
 }
 
 /// The value of an argument, 0 where the line has none. Request 03: a public place in a
@@ -647,18 +662,31 @@ pub fn value(marked: bool, argument: Option<Operand>, state: &[u8]) -> u8 {
     }
 }
 
-/// One step: the next counter and the trace row.
-pub fn step(line: &Line, counter: u16, state: &mut [u8]) -> (u16, [u16; ROW]) {
+/// Where a run stands between two steps, its state apart: the line, and the last address on the bus.
+#[derive(Clone, Copy, Debug, PartialEq, Eq)]
+pub struct Point {
+    pub counter: u16,
+    pub bus: u16,
+}
+
+impl Point {
+    /// Request 07: the bus starts at 0 in every run.
+    pub fn start(counter: u16) -> Point {
+        Point { counter, bus: 0 }
+    }
+}
+
+/// A row of a trace.
+pub type Row = [u16; ROW];
+
+/// One step: the next point and the trace row.
+pub fn step(line: &Line, Point { counter, mut bus }: Point, state: &mut [u8]) -> (Point, Row) {
     let a = value(line.marked, line.first, state);
     let b = value(line.marked, line.second, state);
-    let mut row = [
-        counter,
-        0,
-        0,
-        address_ones(line.first, state),
-        address_ones(line.second, state),
-        address_ones(line.destination, state),
-    ];
+    let addresses = [line.first, line.second, line.destination].map(|operand| address(operand, state));
+    let mut row = [counter, 0, 0, 0, 0, 0, 0, 0, 0];
+    row[3..6].copy_from_slice(&addresses.map(ones));
+    row[6..9].copy_from_slice(&addresses.map(|address| put_on(&mut bus, address)));
     let taken = match line.opcode {
         Jmp => true,
         Beq => a == b,
@@ -685,7 +713,8 @@ pub fn step(line: &Line, counter: u16, state: &mut [u8]) -> (u16, [u16; ROW]) {
         row[2] = (state[place] ^ result).count_ones() as u16;
         state[place] = result;
     }
-    (if taken { line.target.unwrap() } else { counter + 1 }, row)
+    let next = if taken { line.target.unwrap() } else { counter + 1 };
+    (Point { counter: next, bus }, row)
 }
 
 /// The run, with the step that it is made of.
@@ -695,7 +724,7 @@ pub fn run(
     budget: u16,
     state: &mut [u8],
     trace: &mut [u16],
-    one_step: impl Fn(&Line, u16, &mut [u8]) -> (u16, [u16; ROW]),
+    one_step: impl Fn(&Line, Point, &mut [u8]) -> (Point, Row),
 ) -> Answer {
     if state.len() != STATE {
         return refused(18, 0);
@@ -703,14 +732,15 @@ pub fn run(
     if trace.len() < ROW * budget as usize {
         return refused(20, 0);
     }
-    let mut counter = start;
+    let mut point = Point::start(start);
     let mut steps = 0;
-    while steps < budget && (counter as usize) < lines.len() {
-        let (next, row) = one_step(&lines[counter as usize], counter, state);
+    while steps < budget && (point.counter as usize) < lines.len() {
+        let (next, row) = one_step(&lines[point.counter as usize], point, state);
         trace[ROW * steps as usize..][..ROW].copy_from_slice(&row);
-        counter = next;
+        point = next;
         steps += 1;
     }
+    let counter = point.counter;
     if (counter as usize) < lines.len() {
         Answer::Spent { counter, steps }
     } else {

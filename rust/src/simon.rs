@@ -68,28 +68,20 @@ pub fn programs(on: &dyn Dualrail, layout: Layout) -> (Vec<u16>, Vec<u16>) {
     (source, expansion)
 }
 
-/// Steps of one run; the next run goes on from the counter that it answers.
-const BUDGET: u16 = 25_000;
+/// As many steps as a run can have. The example must need no more: a run that goes on from another one has
+/// its address bus at 0 again, so that two traces joined are not the trace of one run.
+const BUDGET: u16 = 65_535;
 
-/// Runs from line 0 to the end; gives the whole trace.
+/// Runs from line 0 to the end; gives the trace.
 pub fn run_to_end(on: &dyn Dualrail, program: &[u16], state: &mut [u8]) -> Vec<u16> {
     run_from(on, program, 0, state)
 }
 
-/// Runs from a line to the end, as many runs as that takes; gives the whole trace.
-pub fn run_from(on: &dyn Dualrail, program: &[u16], mut start: u16, state: &mut [u8]) -> Vec<u16> {
-    let mut trace = vec![];
-    loop {
-        let done = trace.len();
-        trace.resize(done + ROW * BUDGET as usize, 0);
-        let answer = on.run(program, start, BUDGET, state, &mut trace[done..]);
-        match answer {
-            Answer::Halted { steps, .. } => {
-                trace.truncate(done + ROW * steps as usize);
-                return trace;
-            }
-            Answer::Spent { counter, .. } => start = counter,
-            _ => panic!("the run is refused: {answer:?}"),
-        }
-    }
+/// Runs from a line to the end; gives the trace.
+pub fn run_from(on: &dyn Dualrail, program: &[u16], start: u16, state: &mut [u8]) -> Vec<u16> {
+    let mut trace = vec![0; ROW * BUDGET as usize];
+    let answer = on.run(program, start, BUDGET, state, &mut trace);
+    let Answer::Halted { steps, .. } = answer else { panic!("the run does not reach the end: {answer:?}") };
+    trace.truncate(ROW * steps as usize);
+    trace
 }

@@ -13,7 +13,7 @@ use std::panic::{catch_unwind, AssertUnwindSafe};
 use std::path::Path;
 
 /// How many requests of document 02 are in force: one more with each that lands.
-pub const IN_FORCE: u32 = 6;
+pub const IN_FORCE: u32 = 7;
 
 /// What the cases are called on.
 pub struct Tested<'a> {
@@ -75,7 +75,7 @@ mod tests {
     use crate::paper::Paper;
 
     /// A right case for each call, without its first two lines.
-    const RIGHT: [&str; 20] = [
+    const RIGHT: [&str; 24] = [
         "call read\ntext \"u,nop,,,,\\nx\"\nroom 13\nanswer refused 1 1\nwritten 6*0\n",
         "call read\ntext repeat 2 \"u,nop,,,,\\n\"\nroom 13\nanswer count 2\nwritten repeat 2 6*0\n",
         "call write\nprogram \"u,nop,,,,\\n\"\nroom 12\nanswer count 10\nout \"u,nop,,,,\\n\"\n",
@@ -86,8 +86,8 @@ mod tests {
         "call to-image\nstate 16*00 01 527*00\nroom 544\nanswer count 544\nbytes \
          16*00 01 15*02 128*00 128*02 5*00 010200000202 10*00 010100000102 10*00 020100000102 197*00 0201 14*00\n",
         "call from-image\nstate 543*00\nroom 544\nanswer refused 18 0\n",
-        "call run\nprogram \"u,mov,r4,#7,,\\n\"\nstate 544*00\nstart 0\nbudget 2\nroom 12\n\
-         answer halted 1 1\nrow 0 3 3 0 0 0\nchanged 4=7\n",
+        "call run\nprogram \"u,mov,r4,#7,,\\n\"\nstate 544*00\nstart 0\nbudget 2\nroom 18\n\
+         answer halted 1 1\nrow 0 3 3 0 0 0 0 0 0\nchanged 4=7\n",
         "call walk\nprogram \"u,mov,r4,r5,,\\nu,jmp,,,,1\\n\"\nvalues 544*00\nsets 5 6 1 2\nbudget 9\nanswer spent\n",
         "call walk\nprogram \"\"\nvalues 544*00\nrest 9\nraw 3 17*00\nbudget 9\nanswer refused 22 0\n",
         "call expand\nlayout 1 1\nprogram \"s,mov,r16,#0,,\\n\"\nroom 24\nanswer count 4\n\
@@ -107,6 +107,13 @@ mod tests {
         "call move\nold 1 1\nnew 0 0\nstate 544*00\nroom 544\nanswer refused 19 0\n",
         "call move\nold 0 0\nnew 0 0\nstate 544*00\nroom 543\nanswer refused 18 0\n",
         "call move\nold 0 0\nnew 3 0\nstate -\nroom 1\nanswer refused 23 0\n",
+        // The bus goes from 0 to 1 to 3, and from there to 6.
+        "call run\nprogram \"u,mov,@3,@1,,\\nu,mov,r4,@6,,\\n\"\nstate 544*00\nstart 0\nbudget 2\nroom 18\n\
+         answer halted 2 2\nrow 0 0 0 1 0 2 1 0 1\nrow 1 0 0 2 0 0 2 0 0\n",
+        "call run\nprogram \"\"\nstate 544*00\nstart 0\nbudget 2\nroom 17\nanswer refused 20 0\n",
+        // Cells 1 and 2 are as far from 0 and from 3, but not from 1.
+        "call walk\nprogram \"u,mov,r4,!r5+0,,\\nu,mov,r4,@3,,\\n\"\nvalues 544*00\nsets 5 5 1 2\nbudget 9\nanswer balanced\n",
+        "call walk\nprogram \"u,mov,r4,!r5+0,,\\nu,mov,r4,@1,,\\n\"\nvalues 544*00\nsets 5 5 1 2\nbudget 9\nanswer leak 1\n",
     ];
 
     fn tally(contents: &str, report: &mut dyn FnMut(String)) -> Tally {
@@ -161,6 +168,14 @@ mod tests {
         (18, "room 543", "room 544"),
         (18, "18 0", "18 0\nbytes 543*00"),
         (19, "new 3 0", "new 2 0"),
+        (20, "1 0 2 1 0 1", "1 0 2 1 0 2"),
+        (20, "1 0 2 1 0 1", "1 0 2 0 1 1"),
+        (20, "2 0 0 2 0 0", "2 0 0 1 0 0"),
+        (21, "room 17", "room 18"),
+        (21, "20 0", "20 0\nrow 9*0"),
+        (22, "@3", "@2"),
+        (23, "leak 1", "balanced"),
+        (23, "@1", "@3"),
         // What cannot be read.
         (0, "call read", "call reed"),
         (0, "room 13", "room"),
@@ -180,6 +195,7 @@ mod tests {
         (16, "new 0 1", "new 0"),
         (16, "new 0 1", "new 0 256"),
         (9, "row 0 3 3", "row 0 3"),
+        (20, "row 0 0 0 1 0 2 1 0 1", "row 0 0 0 1 0 2"),
         (9, "4=7", "544=7"),
         (10, "sets 5 6", "sets 5 544"),
         (10, "sets 5 6 1 2", "sets 5 6 1 256"),

@@ -3,15 +3,19 @@
 
 use dualrail::compare::compare;
 use dualrail::generate::has_public_bit;
-use dualrail::paper::walk::{self, reach, step_on_sets, step_on_sets_by, Stop, Values, MOST_VALUES, SET};
+use dualrail::paper::walk::{
+    self, reach, step_on_sets, step_on_sets_by, Sets, Stop, Values, MOST_VALUES, SET,
+};
 use dualrail::paper::{
-    self, is_public, part, starts, step, stored_program, value, Line, Opcode, Operand, Paper, MOST_CHECKED,
-    MOST_LINES, PAGE, ROW, SIX, STATE,
+    self, is_public, part, starts, step, stored_program, value, Line, Opcode, Operand, Paper, Point, Row,
+    MOST_CHECKED, MOST_LINES, PAGE, ROW, SIX, STATE,
 };
 use dualrail::Answer::{self, *};
 use dualrail::{Dualrail, Layout};
 use std::ops::RangeInclusive;
 
+#[path = "catches/bus.rs"]
+mod bus;
 #[path = "catches/jumps.rs"]
 mod jumps;
 #[path = "catches/layouts.rs"]
@@ -58,6 +62,9 @@ struct Variant {
     taken: [fn(Layout) -> Layout; 5],
     /// The number that comes before 23 in the first three, 0 if none does.
     early: [u16; 3],
+    /// What is wrong with the bus at each step of a run, and of a walk.
+    step: Option<bus::Fault>,
+    step_of_walks: Option<bus::Fault>,
 }
 
 const RIGHT: Variant = Variant {
@@ -80,6 +87,8 @@ const RIGHT: Variant = Variant {
     moved: |_, _, _, _| (),
     taken: [|layout| layout; 5],
     early: [0; 3],
+    step: None,
+    step_of_walks: None,
 };
 
 impl Variant {
@@ -159,10 +168,22 @@ impl Dualrail for Variant {
         answer
     }
     fn run(&self, program: &[u16], start: u16, budget: u16, state: &mut [u8], trace: &mut [u16]) -> Answer {
-        (self.run)(program, start, budget, state, trace)
+        match self.step {
+            Some(fault) => run_by((program, start, budget), state, trace, |line, point, state| {
+                bus::faulty_step(fault, line, point, state)
+            }),
+            None => (self.run)(program, start, budget, state, trace),
+        }
     }
     fn judge(&self, program: &[u16], sets: &[u8], budget: u16) -> Answer {
-        (self.judge)(program, sets, budget)
+        match self.step_of_walks {
+            Some(fault) => changed_walk((program, sets, budget), |line, counter, sets| {
+                step_on_sets_by(line, counter, sets, |line, point, state| {
+                    bus::faulty_step(fault, line, point, state)
+                })
+            }),
+            None => (self.judge)(program, sets, budget),
+        }
     }
 }
 
@@ -316,18 +337,20 @@ fn public_bits(layout: Layout) -> [u8; 2] {
 /// The right step with the line as a wrong machine takes it in the state.
 fn step_taking(
     line: &Line,
-    counter: u16,
+    point: Point,
     state: &mut [u8],
     taken: impl Fn(&Line, &[u8]) -> Line,
-) -> (u16, [u16; ROW]) {
-    let (_, right) = step(line, counter, &mut state.to_vec());
+) -> (Point, Row) {
+    let (right, right_row) = step(line, point, &mut state.to_vec());
     let taken = taken(line, state);
-    let (next, mut row) = step(&taken, counter, state);
-    // Where a literal is taken for a place, the row still has the address.
-    for (at, argument) in [(3, taken.first), (4, taken.second)] {
-        if let Some(Operand::Literal(_)) = argument {
-            row[at] = right[at];
-        }
+    let (mut next, mut row) = step(&taken, point, state);
+    // Where a literal is taken for a place, row and bus still have the address.
+    let by_value = |taken: Option<Operand>, argument: Option<Operand>| {
+        taken != argument && matches!(taken, Some(Operand::Literal(_)))
+    };
+    if by_value(taken.first, line.first) || by_value(taken.second, line.second) {
+        row[3..].copy_from_slice(&right_row[3..]);
+        next.bus = right.bus;
     }
     (next, row)
 }
@@ -339,7 +362,17 @@ fn run_taking(
     trace: &mut [u16],
     taken: impl Fn(&Line, &[u8]) -> Line,
 ) -> Answer {
-    let step = |line: &Line, counter, state: &mut [u8]| step_taking(line, counter, state, &taken);
+    let step = |line: &Line, point, state: &mut [u8]| step_taking(line, point, state, &taken);
+    run_by((program, start, budget), state, trace, step)
+}
+
+/// Runs with another step.
+fn run_by(
+    (program, start, budget): (&[u16], u16, u16),
+    state: &mut [u8],
+    trace: &mut [u16],
+    step: impl Fn(&Line, Point, &mut [u8]) -> (Point, Row),
+) -> Answer {
     match stored_program(program) {
         Ok(lines) => paper::run(&lines, start, budget, state, trace, step),
         Err(answer) => answer,
@@ -349,7 +382,7 @@ fn run_taking(
 /// The value that a line with a destination writes.
 fn written_value(line: &Line, state: &[u8]) -> u8 {
     let mut after = state.to_vec();
-    step(&Line { destination: Some(Operand::Register(0)), ..*line }, 0, &mut after);
+    step(&Line { destination: Some(Operand::Register(0)), ..*line }, Point::start(0), &mut after);
     after[0]
 }
 
@@ -435,7 +468,7 @@ fn with_lowest_bases(line: &Line, state: &[u8]) -> Line {
 /// Walks with another step.
 fn changed_walk(
     (program, sets, budget): (&[u16], &[u8], u16),
-    step: fn(&Line, u16, &mut [Values]) -> Result<u16, Stop>,
+    step: impl Fn(&Line, u16, &mut Sets) -> Result<u16, Stop>,
 ) -> Answer {
     match (stored_program(program), walk::start(sets)) {
         (Ok(lines), Ok(sets)) => walk::walk(&lines, sets, budget, step),
@@ -453,15 +486,15 @@ fn changed_sets((program, sets, budget): (&[u16], &[u8], u16), change: fn(&mut [
 /// The right step with one of the registers given values of its own for the moment.
 fn with_values(
     (line, counter): (&Line, u16),
-    sets: &mut [Values],
+    sets: &mut Sets,
     register: u8,
     values: Values,
 ) -> Result<u16, Stop> {
-    let kept = std::mem::replace(&mut sets[register as usize], values);
-    let written = line.destination.map_or_else(Default::default, |operand| reach(operand, sets));
+    let kept = std::mem::replace(&mut sets.places[register as usize], values);
+    let written = line.destination.map_or_else(Default::default, |operand| reach(operand, &sets.places));
     let next = step_on_sets(line, counter, sets);
     if !written.contains(&(register as usize)) {
-        sets[register as usize] = kept;
+        sets.places[register as usize] = kept;
     }
     next
 }
@@ -478,40 +511,48 @@ fn spare(line: &Line, register: u8) -> u8 {
     alike.find(|register| !spelling.contains(&format!("r{register}"))).unwrap()
 }
 
-/// The row of a step, and the values of the places written.
-type Outcome = ([u16; ROW], Values);
+/// What a choice of a step gives: the row, the values of the places written, and the bus.
+struct Outcome {
+    row: Row,
+    written: Values,
+    bus: u16,
+}
 
 /// What the choices of a step give, in their order.
-fn outcomes(line: &Line, counter: u16, sets: &[Values]) -> Vec<Outcome> {
-    let written = line.destination.map_or_else(Default::default, |operand| reach(operand, sets));
+fn outcomes(line: &Line, counter: u16, sets: &Sets) -> Vec<Outcome> {
+    let written = line.destination.map_or_else(Default::default, |operand| reach(operand, &sets.places));
     let mut outcomes = vec![];
-    walk::choices(line, sets, &mut |state| {
-        let mut after = *state;
-        let (_, row) = step(line, counter, &mut after);
-        outcomes.push((row, written.iter().map(|&place| after[place]).collect()));
+    walk::choices(line, &sets.places, &mut |state| {
+        for &bus in &sets.bus {
+            let mut after = *state;
+            let (next, row) = step(line, Point { counter, bus }, &mut after);
+            let written = written.iter().map(|&place| after[place]).collect();
+            outcomes.push(Outcome { row, written, bus: next.bus });
+        }
     });
     outcomes
 }
 
 /// All values that a step may write.
-fn results(line: &Line, counter: u16, sets: &[Values]) -> Values {
-    outcomes(line, counter, sets).into_iter().flat_map(|(_, values)| values).collect()
+fn results(line: &Line, counter: u16, sets: &Sets) -> Values {
+    outcomes(line, counter, sets).into_iter().flat_map(|outcome| outcome.written).collect()
 }
 
 /// The right step, with its leak test made by another one.
 fn changed_test(
     line: &Line,
     counter: u16,
-    sets: &mut [Values],
+    sets: &mut Sets,
     alike: fn(&[Outcome]) -> bool,
 ) -> Result<u16, Stop> {
     let outcomes = outcomes(line, counter, sets);
-    let written = line.destination.map_or_else(Default::default, |operand| reach(operand, sets));
+    let written = line.destination.map_or_else(Default::default, |operand| reach(operand, &sets.places));
     match step_on_sets(line, counter, sets) {
         Err(Stop::Leak) if alike(&outcomes) => {
             for place in written {
-                sets[place] = outcomes.iter().flat_map(|(_, values)| values.clone()).collect();
+                sets.places[place] = outcomes.iter().flat_map(|outcome| outcome.written.clone()).collect();
             }
+            sets.bus = outcomes.iter().map(|outcome| outcome.bus).collect();
             Ok(counter + 1)
         }
         answer => answer,
@@ -1239,19 +1280,15 @@ fn variants() -> Vec<Variant> {
         Variant {
             fault: "the lowest bit of the old value in a marked line",
             run: |program, start, budget, state, trace| {
-                let changed = |line: &Line, counter, state: &mut [u8]| {
+                run_by((program, start, budget), state, trace, |line, point, state| {
                     let old = value(true, line.destination, state);
                     let new = written_value(line, state);
-                    let (next, mut row) = step(line, counter, state);
+                    let (next, mut row) = step(line, point, state);
                     if line.marked && line.destination.is_some_and(is_public) {
                         row[2] = (old ^ new).count_ones() as u16;
                     }
                     (next, row)
-                };
-                match stored_program(program) {
-                    Ok(lines) => paper::run(&lines, start, budget, state, trace, changed),
-                    Err(answer) => answer,
-                }
+                })
             },
             ..RIGHT
         },
@@ -1326,8 +1363,8 @@ fn variants() -> Vec<Variant> {
             fault: "a shift count of 8 or more gives 0 in a walk",
             judge: |program, sets, budget| {
                 changed_walk((program, sets, budget), |line, counter, sets| {
-                    step_on_sets_by(line, counter, sets, |line, counter, state| {
-                        step_taking(line, counter, state, |line, state| {
+                    step_on_sets_by(line, counter, sets, |line, point, state| {
+                        step_taking(line, point, state, |line, state| {
                             with_zero(line, state, |_, count| count >= 8)
                         })
                     })
@@ -1339,8 +1376,8 @@ fn variants() -> Vec<Variant> {
             fault: "a public byte whole in a marked line of a walk",
             judge: |program, sets, budget| {
                 changed_walk((program, sets, budget), |line, counter, sets| {
-                    step_on_sets_by(line, counter, sets, |line, counter, state| {
-                        step_taking(line, counter, state, |line, state| {
+                    step_on_sets_by(line, counter, sets, |line, point, state| {
+                        step_taking(line, point, state, |line, state| {
                             reading(line, state, |_, _| Reads::Whole)
                         })
                     })
@@ -1352,7 +1389,7 @@ fn variants() -> Vec<Variant> {
             fault: "21 looks at the place's values, not at the argument's",
             judge: |program, sets, budget| {
                 changed_walk((program, sets, budget), |line, counter, sets| {
-                    match walk::undecided(&Line { marked: false, ..*line }, sets) {
+                    match walk::undecided(&Line { marked: false, ..*line }, &sets.places) {
                         true => Err(Stop::Refused(21)),
                         false => step_on_sets(line, counter, sets),
                     }
@@ -1365,7 +1402,7 @@ fn variants() -> Vec<Variant> {
             judge: |program, sets, budget| {
                 changed_walk((program, sets, budget), |line, counter, sets| {
                     let alike = |argument: Option<Operand>| match argument {
-                        Some(Operand::Register(register)) => one_lowest_bit(&sets[register as usize]),
+                        Some(Operand::Register(register)) => one_lowest_bit(&sets.places[register as usize]),
                         _ => false,
                     };
                     let taken = line.marked && is_branch(line) && (alike(line.first) || alike(line.second));
@@ -1384,8 +1421,8 @@ fn variants() -> Vec<Variant> {
                     Some(
                         Operand::Public { base: base @ 4..=15, .. }
                         | Operand::Sensitive { base: base @ 4..=15, .. },
-                    ) if line.marked && one_lowest_bit(&sets[base as usize]) => {
-                        let first = sets[base as usize].first().copied();
+                    ) if line.marked && one_lowest_bit(&sets.places[base as usize]) => {
+                        let first = sets.places[base as usize].first().copied();
                         with_values((line, counter), sets, base, first.into_iter().collect())
                     }
                     _ => step_on_sets(line, counter, sets),
@@ -1403,7 +1440,7 @@ fn variants() -> Vec<Variant> {
                     };
                     let other = spare(line, register);
                     let line = Line { second: Some(Operand::Register(other)), ..*line };
-                    with_values((&line, counter), sets, other, sets[register as usize].clone())
+                    with_values((&line, counter), sets, other, sets.places[register as usize].clone())
                 })
             },
             ..RIGHT
@@ -1419,7 +1456,7 @@ fn variants() -> Vec<Variant> {
                     };
                     let other = spare(line, register);
                     let line = Line { first: Some(Operand::Register(other)), ..*line };
-                    with_values((&line, counter), sets, other, sets[register as usize].clone())
+                    with_values((&line, counter), sets, other, sets.places[register as usize].clone())
                 })
             },
             ..RIGHT
@@ -1429,7 +1466,7 @@ fn variants() -> Vec<Variant> {
             judge: |program, sets, budget| {
                 changed_walk((program, sets, budget), |line, counter, sets| match line.first {
                     Some(Operand::Table { base, .. }) if line.opcode == Opcode::Mov => {
-                        let first = sets[base as usize].first().copied();
+                        let first = sets.places[base as usize].first().copied();
                         with_values((line, counter), sets, base, first.into_iter().collect())
                     }
                     _ => step_on_sets(line, counter, sets),
@@ -1441,10 +1478,11 @@ fn variants() -> Vec<Variant> {
             fault: "the written place keeps one result",
             judge: |program, sets, budget| {
                 changed_walk((program, sets, budget), |line, counter, sets| {
-                    let written = line.destination.map_or_else(Default::default, |to| reach(to, sets));
+                    let written =
+                        line.destination.map_or_else(Default::default, |to| reach(to, &sets.places));
                     let next = step_on_sets(line, counter, sets)?;
                     for place in written {
-                        sets[place] = sets[place].first().copied().into_iter().collect();
+                        sets.places[place] = sets.places[place].first().copied().into_iter().collect();
                     }
                     Ok(next)
                 })
@@ -1455,9 +1493,9 @@ fn variants() -> Vec<Variant> {
             fault: "the written place keeps its old values too",
             judge: |program, sets, budget| {
                 changed_walk((program, sets, budget), |line, counter, sets| {
-                    let old = sets.to_vec();
+                    let old = sets.places.clone();
                     let next = step_on_sets(line, counter, sets)?;
-                    for (set, old) in sets.iter_mut().zip(old) {
+                    for (set, old) in sets.places.iter_mut().zip(old) {
                         set.extend(old);
                     }
                     Ok(next)
@@ -1470,7 +1508,7 @@ fn variants() -> Vec<Variant> {
             judge: |program, sets, budget| {
                 changed_walk((program, sets, budget), |line, counter, sets| {
                     changed_test(line, counter, sets, |outcomes| {
-                        outcomes[0].0 == outcomes[outcomes.len() - 1].0
+                        outcomes[0].row == outcomes[outcomes.len() - 1].row
                     })
                 })
             },
@@ -1481,7 +1519,7 @@ fn variants() -> Vec<Variant> {
             judge: |program, sets, budget| {
                 changed_walk((program, sets, budget), |line, counter, sets| {
                     changed_test(line, counter, sets, |outcomes| {
-                        outcomes.iter().all(|(row, _)| row[..3] == outcomes[0].0[..3])
+                        outcomes.iter().all(|outcome| outcome.row[..3] == outcomes[0].row[..3])
                     })
                 })
             },
@@ -1492,9 +1530,10 @@ fn variants() -> Vec<Variant> {
             judge: |program, sets, budget| {
                 changed_walk((program, sets, budget), |line, counter, sets| {
                     changed_test(line, counter, sets, |outcomes| {
+                        let first = outcomes[0].row;
                         outcomes
                             .iter()
-                            .all(|(row, _)| row[1] == outcomes[0].0[1] && row[3..] == outcomes[0].0[3..])
+                            .all(|Outcome { row, .. }| row[1] == first[1] && row[3..] == first[3..])
                     })
                 })
             },
@@ -1532,7 +1571,9 @@ fn variants() -> Vec<Variant> {
                 changed_walk((program, sets, budget), |line, counter, sets| {
                     let outcomes = outcomes(line, counter, sets);
                     match step_on_sets(line, counter, sets) {
-                        Err(Stop::Refused(21)) if outcomes.iter().any(|(row, _)| *row != outcomes[0].0) => {
+                        Err(Stop::Refused(21))
+                            if outcomes.iter().any(|other| other.row != outcomes[0].row) =>
+                        {
                             Err(Stop::Leak)
                         }
                         answer => answer,
@@ -1572,9 +1613,9 @@ fn variants() -> Vec<Variant> {
             judge: |program, sets, budget| {
                 changed_walk((program, sets, budget), |line, counter, sets| match line.destination {
                     Some(operand @ (Operand::Public { base, .. } | Operand::Sensitive { base, .. }))
-                        if reach(operand, sets).len() == 1 =>
+                        if reach(operand, &sets.places).len() == 1 =>
                     {
-                        let first = sets[base as usize].first().copied();
+                        let first = sets.places[base as usize].first().copied();
                         with_values((line, counter), sets, base, first.into_iter().collect())
                     }
                     _ => step_on_sets(line, counter, sets),
@@ -1694,8 +1735,8 @@ fn no_fault_but_the_named_ones() {
         },
         judge: |program, sets, budget| {
             changed_walk((program, sets, budget), |line, counter, sets| {
-                step_on_sets_by(line, counter, sets, |line, counter, state| {
-                    step_taking(line, counter, state, |line, state| reading(line, state, |_, _| Reads::Right))
+                step_on_sets_by(line, counter, sets, |line, point, state| {
+                    step_taking(line, point, state, |line, state| reading(line, state, |_, _| Reads::Right))
                 })
             })
         },
@@ -1709,10 +1750,16 @@ fn every_fault_is_found() {
     assert!(compare(&RIGHT, 2, 1, 200).is_ok());
     let named = |variant: Variant| (variant.fault.to_string(), variant);
     let whole = variants().into_iter().chain(jumps::variants()).map(named).chain(layouts::variants());
-    for (fault, variant) in whole.chain(moves::variants()) {
+    let (mut found, mut missed) = (0, vec![]);
+    for (fault, variant) in whole.chain(moves::variants()).chain(bus::variants()) {
         match compare(&variant, 2, 1, 10_000) {
-            Ok(_) => panic!("not found: {fault}"),
-            Err(report) => println!("{fault:60} {}", report.lines().next().unwrap()),
+            Ok(_) => missed.push(fault),
+            Err(report) => {
+                println!("{fault:60} {}", report.lines().next().unwrap());
+                found += 1;
+            }
         }
     }
+    println!("{found} wrong implementations found");
+    assert!(missed.is_empty(), "not found: {missed:#?}");
 }

@@ -1,5 +1,6 @@
 //! The library against the paper, on many random calls.
 
+use dualrail::compare::bus::Bus;
 use dualrail::compare::jumps::Jumps;
 use dualrail::compare::moves::Moves;
 use dualrail::compare::{compare, Counts, WITH_LAYOUT};
@@ -8,7 +9,7 @@ use dualrail::paper::Opcode;
 use dualrail::plain::Plain;
 use dualrail::Library;
 
-const CASES: u64 = 90_000;
+const CASES: u64 = 100_000;
 
 fn from_environment(name: &str) -> Option<u64> {
     std::env::var(name).ok().map(|value| value.parse().expect("a number"))
@@ -46,6 +47,7 @@ fn library_against_paper() {
     layouts_are_met(&counts);
     jumps_are_met(&counts.jumps);
     moves_are_met(&counts.moves);
+    the_bus_is_met(&counts.bus);
 }
 
 /// Request 04: each of the six layouts often, in whole runs and walks too, and 23 before every other refusal.
@@ -87,7 +89,7 @@ fn jumps_are_met(jumps: &Jumps) {
         let count = jumps.opcodes[opcode as usize];
         assert!(count >= 300_000, "{opcode:?} came {count} times only");
     }
-    for length in [4, 5, 6, 7, 12, 13, 14, 15, 16, 17] {
+    for length in [4, 5, 6, 7, 13, 14, 15, 16, 17, 18] {
         let count = jumps.parts[length];
         assert!(count >= 5_000, "a part of {length} lines came {count} times only");
     }
@@ -111,7 +113,10 @@ fn moves_are_met(moves: &Moves) {
         assert!(counts.as_flattened().iter().all(|&count| count >= least), "{name}: {counts:?} only");
     }
     assert!(moves.lines >= 20_000 && moves.equal_rows >= 500_000);
-    assert!(moves.scratch.iter().all(|&count| count >= 10_000) && moves.left_by_run >= 3_000);
+    // Since request 07 a run mostly leaves 0 in r2.
+    let least = [10_000, 5_000, 10_000];
+    let enough = moves.scratch.iter().zip(least).all(|(&count, least)| count >= least);
+    assert!(enough && moves.left_by_run >= 3_000, "{:?} with something in scratch only", moves.scratch);
     for damage in Damage::all() {
         let [taken, refused] = moves.damages[damage as usize];
         let right = match damage {
@@ -126,6 +131,31 @@ fn moves_are_met(moves: &Moves) {
     for number in [0, 18, 19] {
         let count = moves.before[number];
         assert!(count >= 3_000, "23 of a move came before {number} {count} times only");
+    }
+}
+
+/// Request 07: addresses in every field and form, 0 and none among them, stores that are too small by the new count
+/// alone, tables in each layout, and walks with one address on the bus and with several.
+fn the_bus_is_met(bus: &Bus) {
+    let at_least = [
+        ("addresses", bus.addresses.as_flattened(), 400),
+        ("addresses 0 after another", &bus.zeros, 300),
+        ("fields without address after another", &bus.none, 900),
+        ("cells read and written, bases written", &[bus.twice, bus.bases], 200),
+        ("branches not taken and taken", &bus.branches, 300),
+        ("addresses after nop, jmp, others without any", &bus.kept, 150),
+        ("runs cut in two, shown by a distance", &[bus.cut, bus.shown], 450),
+        ("stores too small", &bus.short, 1_300),
+        ("lines with tables", bus.tables.as_flattened(), 3_000),
+        ("walks with one address, with two, with four", &[1, 2, 4].map(|most| bus.most[most]), 400),
+        ("walks with 16 addresses", &bus.most[16..], 40),
+        ("steps from several addresses", &[bus.passed], 450),
+        ("leaks in distances alone", &[bus.leaks], 900),
+        ("leaks of several addresses together", &[bus.of_several], 200),
+        ("leaks in distances at a branch", &[bus.at_branch], 60),
+    ];
+    for (name, counts, least) in at_least {
+        assert!(counts.iter().all(|&count| count >= least), "{name}: {counts:?} only");
     }
 }
 

@@ -1,4 +1,5 @@
-//! The edges and examples that the papers print, and a few for the walk, for the layouts, for jumps and for moves.
+//! The edges and examples that the papers print, and a few for the walk, for the layouts, for jumps, for moves and
+//! for the bus.
 
 use dualrail::paper::walk::SET;
 use dualrail::paper::{Paper, ROW, SIX, STATE};
@@ -118,7 +119,8 @@ fn machine() {
         state[32 + 261] = 7;
         let mut trace = [0; ROW];
         on.run(&stored(on, "u,add,%r4+127,@261,#251,\n"), 0, 1, &mut state, &mut trace);
-        assert_eq!((state[32 + 128], trace), (2, [0, 1, 2, 3, 0, 1]));
+        // Request 07: 261 is 3 bits from 0, and 128 is 4 from 261.
+        assert_eq!((state[32 + 128], trace), (2, [0, 1, 2, 3, 0, 1, 3, 0, 4]));
     });
 }
 
@@ -214,7 +216,7 @@ fn public_bits() {
         assert_eq!(value("s,mov,r16,!r4+0,,\n", &[(4, 2), (32 + 2, 255)]), 1);
         assert_eq!(value("s,mov,r16,%r4+0,,\n", &[(4, 2), (160 + 2, 2)]), 2);
         assert_eq!(value("s,mov,r16,#6,,\n", &[]), 6);
-        assert_eq!(step_from(on, "s,mov,r5,r4,,\n", &[(4, 3), (5, 254)]).1, [0, 1, 8, 0, 0, 0]);
+        assert_eq!(step_from(on, "s,mov,r5,r4,,\n", &[(4, 3), (5, 254)]).1, [0, 1, 8, 0, 0, 0, 0, 0, 0]);
         // Branches too: never equal to 3.
         let mut state = [0; STATE];
         state[4] = 3;
@@ -264,8 +266,9 @@ fn loads() {
                 "mov,r2,^r2+240,,",
                 "and,r2,r2,#3,",
                 "orr,r1,r1,r2,",
-                "mov,r3,r0,,",
+                "mov,r3,^r0+32,,",
                 "mov,r3,^r1+32,,",
+                "mov,r2,^r0+32,,",
                 "mov,r16,r0,,",
                 "mov,r16,r3,,",
             ],
@@ -286,8 +289,9 @@ fn loads() {
                 "mov,r2,^r2+240,,",
                 "and,r2,r2,#3,",
                 "orr,r1,r1,r2,",
-                "mov,r3,r0,,",
+                "mov,r3,^r0+0,,",
                 "mov,r3,^r1+0,,",
+                "mov,r2,^r0+0,,",
                 "mov,%r5+1,r0,,",
                 "mov,%r5+1,r3,,",
             ],
@@ -304,8 +308,9 @@ fn loads() {
                 "mov,r2,#2,,",
                 "and,r2,r2,#3,",
                 "orr,r1,r1,r2,",
-                "mov,r3,r0,,",
+                "mov,r3,^r0+16,,",
                 "mov,r3,^r1+16,,",
+                "mov,r2,^r0+16,,",
                 "mov,@200,r0,,",
                 "mov,@200,r3,,",
             ],
@@ -336,11 +341,11 @@ fn loads() {
         same("s,mov,r16,@128,,\n", &["mov,r3,r0,,", "mov,r3,@128,,", "mov,r16,r0,,", "mov,r16,r3,,"]);
         // Targets follow the longer parts.
         let jumps = expanded(on, Layout::LOWEST, "u,jmp,,,,2\ns,xor,r16,r4,r5,\nu,jmp,,,,0\n");
-        assert!(jumps.starts_with("u,jmp,,,,18\n") && jumps.ends_with("u,jmp,,,,0\n"), "{jumps}");
+        assert!(jumps.starts_with("u,jmp,,,,19\n") && jumps.ends_with("u,jmp,,,,0\n"), "{jumps}");
         let longest = stored(on, &"s,xor,r16,r4,r5,\n".repeat(1_024));
-        let mut expansion = vec![0; SIX * 17 * 1_024];
+        let mut expansion = vec![0; SIX * 18 * 1_024];
         assert_eq!(on.expand(Layout::LOWEST, &longest, &mut expansion[1..]), refused(17, 0));
-        assert_eq!(on.expand(Layout::LOWEST, &longest, &mut expansion), Counted(17_408));
+        assert_eq!(on.expand(Layout::LOWEST, &longest, &mut expansion), Counted(18_432));
     });
 }
 
@@ -433,11 +438,11 @@ fn the_two_programs() {
         let mut trace = [0; ROW * 1_000];
         assert_eq!(on.run(&expansion, 0, 1_000, &mut image, &mut trace), Halted { counter: 5, steps: 5 });
         let rows = [
-            [0, 0, 0, 0, 0, 0],
-            [1, 1, 1, 0, 0, 0],
-            [2, 1, 2, 0, 0, 0],
-            [3, 0, 1, 0, 0, 0],
-            [4, 1, 1, 0, 0, 0],
+            [0, 0, 0, 0, 0, 0, 0, 0, 0],
+            [1, 1, 1, 0, 0, 0, 0, 0, 0],
+            [2, 1, 2, 0, 0, 0, 0, 0, 0],
+            [3, 0, 1, 0, 0, 0, 0, 0, 0],
+            [4, 1, 1, 0, 0, 0, 0, 0, 0],
         ];
         assert_eq!(trace[..ROW * 5], rows.concat());
     });
@@ -488,8 +493,9 @@ fn neighbours_in_macros() {
                 "mov,r2,#2,,",
                 "and,r2,r2,#6,",
                 "orr,r1,r1,r2,",
-                "mov,r3,r0,,",
+                "mov,r3,^r0+32,,",
                 "mov,r3,^r1+32,,",
+                "mov,r2,^r0+32,,",
                 "mov,@200,r0,,",
                 "mov,@200,r3,,",
             ],
@@ -520,18 +526,19 @@ fn spaced_in_macros() {
                 "mov,r2,#16,,",
                 "and,r2,r2,#20,",
                 "orr,r1,r1,r2,",
-                "mov,r3,r0,,",
+                "mov,r3,^r0+128,,",
                 "mov,r3,^r1+128,,",
+                "mov,r2,^r0+128,,",
                 "mov,r16,r0,,",
                 "mov,r16,r3,,",
             ],
         );
         let not = ["mov,r1,r0,,", "mov,r1,r17,,", "xor,r1,r1,#20,", "mov,r16,r0,,", "mov,r16,r1,,"];
         becomes(on, SPACED_2, "s,not,r16,r17,,\n", &not);
-        // Targets follow the shorter parts: 12 lines, and 16 with two public places.
+        // Targets follow the shorter parts: 13 lines, and 17 with two public places.
         let text = "u,jmp,,,,3\ns,xor,r16,r17,#1,\ns,xor,r16,r4,@5,\nu,jmp,,,,2\n";
         let jumps = expanded(on, SPACED_0, text);
-        assert!(jumps.starts_with("u,jmp,,,,29\n") && jumps.ends_with("\nu,jmp,,,,13\n"), "{jumps}");
+        assert!(jumps.starts_with("u,jmp,,,,31\n") && jumps.ends_with("\nu,jmp,,,,14\n"), "{jumps}");
     });
 }
 
@@ -554,8 +561,9 @@ fn a_public_bit_when_spaced() {
                 "mov,r2,r17,,",
                 "and,r2,r2,#10,",
                 "orr,r1,r1,r2,",
-                "mov,r3,r0,,",
+                "mov,r3,^r0+0,,",
                 "mov,r3,^r1+0,,",
+                "mov,r2,^r0+0,,",
                 "mov,r20,r0,,",
                 "mov,r20,r3,,",
             ],
@@ -709,18 +717,18 @@ fn unmarked(on: &dyn Dualrail, layout: Layout, text: &str, wanted: &[&str]) {
     assert_eq!(numbered, wanted, "{layout:?}");
 }
 
-/// Request 05: jumps back and on across marked lines, whose parts have 15, 4, 7 and 17 lines for neighbours; spaced,
-/// 14, 4, 7 and 16.
+/// Request 05: jumps back and on across marked lines, whose parts have 16, 4, 7 and 18 lines for neighbours; spaced,
+/// 15, 4, 7 and 17.
 #[test]
 fn jumps_around_marked_lines() {
     each(|on| {
         let text = "u,jmp,,,,5\ns,xor,r16,r17,r4,\nu,beq,,r4,#0,1\ns,mov,r16,@128,,\nu,bne,,r4,r5,2\n\
                     s,not,r18,@5,,\nu,jmp,,,,8\ns,and,r16,r4,r5,\n";
-        // The lines start at 0, 1, 16, 17, 21, 22, 29 and 30, and the end is 47.
-        let neighbours = ["0 u,jmp,,,,22", "16 u,beq,,r4,#0,1", "21 u,bne,,r4,r5,16", "29 u,jmp,,,,47"];
+        // The lines start at 0, 1, 17, 18, 22, 23, 30 and 31, and the end is 49.
+        let neighbours = ["0 u,jmp,,,,23", "17 u,beq,,r4,#0,1", "22 u,bne,,r4,r5,17", "30 u,jmp,,,,49"];
         unmarked(on, NEIGHBOURS_1, text, &neighbours);
-        // At 0, 1, 15, 16, 20, 21, 28 and 29, and the end is 45.
-        let spaced = ["0 u,jmp,,,,21", "15 u,beq,,r4,#0,1", "20 u,bne,,r4,r5,15", "28 u,jmp,,,,45"];
+        // At 0, 1, 16, 17, 21, 22, 29 and 30, and the end is 47.
+        let spaced = ["0 u,jmp,,,,22", "16 u,beq,,r4,#0,1", "21 u,bne,,r4,r5,16", "29 u,jmp,,,,47"];
         unmarked(on, SPACED_1, text, &spaced);
     });
 }
@@ -729,14 +737,14 @@ fn jumps_around_marked_lines() {
 #[test]
 fn jumps_to_the_end() {
     each(|on| {
-        // 17 lines or, spaced, 16; then 6.
+        // 18 lines or, spaced, 17; then 6.
         let text = "s,orr,r16,r4,@5,\ns,mov,r17,r4,,\nu,jmp,,,,3\n";
-        unmarked(on, NEIGHBOURS_2, text, &["23 u,jmp,,,,24"]);
-        unmarked(on, SPACED_0, text, &["22 u,jmp,,,,23"]);
+        unmarked(on, NEIGHBOURS_2, text, &["24 u,jmp,,,,25"]);
+        unmarked(on, SPACED_0, text, &["23 u,jmp,,,,24"]);
         unmarked(on, SPACED_2, "u,jmp,,,,2\ns,not,r16,r17,,\n", &["0 u,jmp,,,,6"]);
-        let expansion = expanded_to(on, NEIGHBOURS_2, &stored(on, text), 24);
-        let answer = on.run(&expansion, 23, 9, &mut [0; STATE], &mut [0; 9 * ROW]);
-        assert_eq!(answer, Halted { counter: 24, steps: 1 });
+        let expansion = expanded_to(on, NEIGHBOURS_2, &stored(on, text), 25);
+        let answer = on.run(&expansion, 24, 9, &mut [0; STATE], &mut [0; 9 * ROW]);
+        assert_eq!(answer, Halted { counter: 25, steps: 1 });
     });
 }
 
@@ -749,7 +757,7 @@ fn jumps_with_their_own_targets() {
         for four in program.chunks_exact_mut(4 * SIX) {
             four[..SIX].copy_from_slice(&stored(on, "s,xor,r16,r4,r5,\n"));
         }
-        for (layout, length) in [(NEIGHBOURS_2, 17), (SPACED_0, 16)] {
+        for (layout, length) in [(NEIGHBOURS_2, 18), (SPACED_0, 17)] {
             // Four lines become three more than the marked one does.
             let start =
                 |line: usize| (length + 3) * (line / 4) + [0, length, length + 1, length + 2][line % 4];
@@ -892,10 +900,10 @@ fn moves_judged_in_the_old_layout() {
 fn a_run_that_moves() {
     each(|on| {
         let program = stored(on, "s,not,r16,r17,,\ns,and,r18,r16,#1,\n");
-        let mut first = [0; SIX * 18];
-        assert_eq!(on.expand(NEIGHBOURS_1, &program, &mut first), Counted(18));
-        let mut second = [0; SIX * 17];
-        assert_eq!(on.expand(SPACED_0, &program, &mut second), Counted(17));
+        let mut first = [0; SIX * 19];
+        assert_eq!(on.expand(NEIGHBOURS_1, &program, &mut first), Counted(19));
+        let mut second = [0; SIX * 18];
+        assert_eq!(on.expand(SPACED_0, &program, &mut second), Counted(18));
         let mut image = [0; STATE];
         on.to_image(NEIGHBOURS_1, &[0; STATE], &mut image);
         let answer = on.run(&first, 0, 5, &mut image, &mut [0; ROW * 5]);
@@ -904,10 +912,241 @@ fn a_run_that_moves() {
         assert_eq!((image[1], image[16], image[17], image[18]), (2, 2, 4, 4));
         let mut image = moved(on, NEIGHBOURS_1, SPACED_0, &image);
         assert_eq!((image[1], image[16], image[17], image[18]), (0, 1, 4, 4));
-        let mut trace = [0; ROW * 12];
-        assert_eq!(on.run(&second, 5, 12, &mut image, &mut trace), Halted { counter: 17, steps: 12 });
+        let mut trace = [0; ROW * 13];
+        assert_eq!(on.run(&second, 5, 13, &mut image, &mut trace), Halted { counter: 18, steps: 13 });
         assert_eq!((image[16], image[17], image[18]), (1, 4, 1));
         // The first row: r1, which is 0 after the move, is cleared.
-        assert_eq!(trace[..ROW], [5, 0, 0, 0, 0, 0]);
+        assert_eq!(trace[..ROW], [5, 0, 0, 0, 0, 0, 0, 0, 0]);
+    });
+}
+
+/// The rows of a run from line 0 to its end, all places being 0 before it but for these.
+fn rows_of(on: &dyn Dualrail, text: &str, places: &[(usize, u8)]) -> Vec<[u16; ROW]> {
+    let mut state = [0; STATE];
+    for &(place, value) in places {
+        state[place] = value;
+    }
+    let mut trace = [0; 20 * ROW];
+    let answer = on.run(&stored(on, text), 0, 20, &mut state, &mut trace);
+    let Halted { steps, .. } = answer else { panic!("{answer:?}") };
+    trace.chunks_exact(ROW).take(steps as usize).map(|row| row.try_into().unwrap()).collect()
+}
+
+/// Request 07: a row ends with three distances, each from the address before it; no address, no distance.
+#[test]
+fn distances_in_a_row() {
+    each(|on| {
+        let row = |line: &str, places: &[(usize, u8)]| rows_of(on, line, places)[0];
+        // From 0 to 3, to 0, to 3; and from 0 to 0 three times.
+        let thrice = "u,add,!r4+0,!r4+0,@0,\n";
+        assert_eq!(row(thrice, &[(4, 3)]), [0, 0, 0, 2, 0, 2, 2, 2, 2]);
+        assert_eq!(row(thrice, &[(4, 0)]), [0; ROW]);
+        // 1, then 7, then 256: one bit, two, four.
+        assert_eq!(row("u,add,@256,@1,@7,\n", &[]), [0, 0, 0, 1, 3, 1, 1, 2, 4]);
+        // A place read and written at once counts twice, with another address between too.
+        assert_eq!(row("u,add,@5,@5,#1,\n", &[]), [0, 1, 1, 2, 0, 2, 2, 0, 0]);
+        assert_eq!(row("u,add,@5,@5,@511,\n", &[]), [0, 0, 0, 2, 9, 2, 2, 7, 7]);
+        assert_eq!(row("u,add,@5,@4,@5,\n", &[]), [0, 0, 0, 1, 2, 2, 1, 1, 0]);
+        // Literals and registers leave the bus.
+        assert_eq!(row("u,add,@7,#255,@1,\n", &[]), [0, 8, 8, 0, 1, 3, 0, 1, 2]);
+        assert_eq!(row("u,add,@7,@1,#255,\n", &[]), [0, 8, 8, 1, 0, 3, 1, 0, 2]);
+        assert_eq!(row("u,add,@7,r31,#1,\n", &[]), [0, 1, 1, 0, 0, 3, 0, 0, 3]);
+        assert_eq!(row("u,mov,r4,^r5+255,,\n", &[(5, 1)]), [0, 0, 0, 1, 0, 0, 1, 0, 0]);
+        // Branches too; a base itself is no address.
+        assert_eq!(row("u,beq,,%r4+127,!r4+127,1\n", &[(4, 1)]), [0, 0, 0, 1, 0, 0, 1, 1, 0]);
+        assert_eq!(row("s,bne,,@3,@5,1\n", &[]), [0, 0, 0, 2, 2, 0, 2, 2, 0]);
+    });
+}
+
+/// Request 07: the bus holds the last address over steps that have none, jumps among them; address 0 is one.
+#[test]
+fn the_bus_over_steps() {
+    each(|on| {
+        let text = "u,mov,r4,@7,,\nu,mov,r5,r6,,\nu,mov,r4,@6,,\nu,mov,r4,@0,,\nu,mov,r4,@7,,\nu,nop,,,,\n\
+                    u,jmp,,,,8\nu,nop,,,,\nu,beq,,@7,@6,10\nu,nop,,,,\nu,bne,,#1,#2,11\nu,mov,@511,#0,,\n";
+        let rows = rows_of(on, text, &[]);
+        let lines: Vec<u16> = rows.iter().map(|row| row[0]).collect();
+        assert_eq!(lines, [0, 1, 2, 3, 4, 5, 6, 8, 10, 11]);
+        let distances: Vec<[u16; 3]> = rows.iter().map(|row| [row[6], row[7], row[8]]).collect();
+        let none = [0, 0, 0];
+        let wanted =
+            [[3, 0, 0], none, [1, 0, 0], [2, 0, 0], [3, 0, 0], none, none, [0, 1, 0], none, [0, 0, 7]];
+        assert_eq!(distances, wanted);
+    });
+}
+
+/// Request 07: addresses are those before the write, also where it changes a base; the next step has the new one.
+#[test]
+fn a_base_that_is_written() {
+    each(|on| {
+        // r4 goes from 2 to 9: cells 2 and 131, then cell 9.
+        let rows = rows_of(on, "u,add,r4,!r4+0,%r4+1,\nu,mov,r5,!r4+0,,\n", &[(4, 2), (32 + 2, 9)]);
+        assert_eq!(rows, [[0, 2, 3, 1, 3, 0, 1, 2, 0], [1, 0, 0, 2, 0, 0, 3, 0, 0]]);
+    });
+}
+
+/// Request 07: the bus starts at 0 in every run, one from a later line too.
+#[test]
+fn the_bus_at_the_start() {
+    each(|on| {
+        let program = stored(on, "u,mov,r4,@7,,\nu,mov,r4,@7,,\n");
+        let mut state = [0; STATE];
+        let mut trace = [0; 2 * ROW];
+        on.run(&program, 0, 2, &mut state, &mut trace);
+        assert_eq!((trace[6], trace[ROW + 6]), (3, 0));
+        for start in [0, 1, 0] {
+            on.run(&program, start, 1, &mut state, &mut trace);
+            assert_eq!(trace[..ROW], [start, 0, 0, 3, 0, 0, 3, 0, 0]);
+        }
+    });
+}
+
+/// Request 07: and so after a move. Cell 129 is 6 bits from cell 255, where the first line ends, and 2 from 0.
+#[test]
+fn the_bus_after_a_move() {
+    each(|on| {
+        let program = stored(on, "s,mov,@255,@129,,\ns,mov,@131,@129,,\n");
+        let expansions = [Layout::LOWEST, SPACED_0].map(|layout| expanded_to(on, layout, &program, 8));
+        let mut image = [0; STATE];
+        on.to_image(Layout::LOWEST, &[0; STATE], &mut image);
+        let mut trace = [0; ROW * 8];
+        let mut whole = image;
+        assert_eq!(on.run(&expansions[0], 0, 8, &mut whole, &mut trace), Halted { counter: 8, steps: 8 });
+        assert_eq!(trace[ROW * 5..ROW * 6], [5, 1, 1, 2, 0, 0, 6, 0, 0]);
+        on.run(&expansions[0], 0, 4, &mut image, &mut trace);
+        let mut image = moved(on, Layout::LOWEST, SPACED_0, &image);
+        assert_eq!(on.run(&expansions[1], 4, 4, &mut image, &mut trace), Halted { counter: 8, steps: 4 });
+        assert_eq!(trace[ROW..ROW * 2], [5, 1, 1, 2, 0, 0, 2, 0, 0]);
+    });
+}
+
+/// The rows of a line's expansion, run from the image of the all-zero state.
+fn rows_of_macro(on: &dyn Dualrail, layout: Layout, text: &str, length: usize) -> Vec<Vec<u16>> {
+    let expansion = expanded_to(on, layout, &stored(on, text), length);
+    let mut image = [0; STATE];
+    on.to_image(layout, &[0; STATE], &mut image);
+    let mut trace = vec![0; ROW * length];
+    let answer = on.run(&expansion, 0, length as u16, &mut image, &mut trace);
+    assert_eq!(answer, Halted { counter: length as u16, steps: length as u16 });
+    trace.chunks_exact(ROW).map(<[u16]>::to_vec).collect()
+}
+
+/// Request 07: the rows of a table macro in neighbours at 0. The table of xor starts at cell 288, and the entry of
+/// 0 and 0 is in cell 298.
+#[test]
+fn rows_of_a_table_macro() {
+    each(|on| {
+        let rows = [
+            [0, 0, 0, 0, 0, 0, 0, 0, 0],
+            [1, 1, 1, 0, 0, 0, 0, 0, 0],
+            [2, 1, 0, 0, 0, 0, 0, 0, 0],
+            [3, 1, 2, 0, 0, 0, 0, 0, 0],
+            [4, 1, 2, 0, 0, 0, 0, 0, 0],
+            [5, 0, 0, 0, 0, 0, 0, 0, 0],
+            [6, 1, 1, 0, 0, 0, 0, 0, 0],
+            [7, 1, 0, 0, 0, 0, 0, 0, 0],
+            [8, 2, 1, 0, 0, 0, 0, 0, 0],
+            [9, 0, 0, 2, 0, 0, 2, 0, 0],
+            [10, 1, 1, 4, 0, 0, 2, 0, 0],
+            [11, 0, 1, 2, 0, 0, 2, 0, 0],
+            [12, 0, 1, 0, 0, 0, 0, 0, 0],
+            [13, 1, 1, 0, 0, 0, 0, 0, 0],
+        ];
+        assert_eq!(rows_of_macro(on, Layout::LOWEST, "s,xor,r16,r17,r18,\n", 14), rows);
+    });
+}
+
+/// Request 07: the same spaced at 1, with cells. The table of and starts at cell 256, which is 4 bits from 131 and
+/// from 200, and the entry of 0 and 1 is in cell 274.
+#[test]
+fn rows_of_a_spaced_table_macro() {
+    each(|on| {
+        let rows = [
+            [0, 0, 0, 0, 0, 0, 0, 0, 0],
+            [1, 1, 1, 3, 0, 0, 3, 0, 0],
+            [2, 1, 0, 0, 0, 0, 0, 0, 0],
+            [3, 1, 2, 0, 0, 0, 0, 0, 0],
+            [4, 0, 0, 0, 0, 0, 0, 0, 0],
+            [5, 1, 1, 0, 0, 0, 0, 0, 0],
+            [6, 1, 0, 0, 0, 0, 0, 0, 0],
+            [7, 2, 1, 0, 0, 0, 0, 0, 0],
+            [8, 0, 0, 1, 0, 0, 4, 0, 0],
+            [9, 1, 1, 3, 0, 0, 2, 0, 0],
+            [10, 0, 1, 1, 0, 0, 2, 0, 0],
+            [11, 0, 1, 0, 0, 3, 0, 0, 4],
+            [12, 1, 1, 0, 0, 3, 0, 0, 0],
+        ];
+        assert_eq!(rows_of_macro(on, SPACED_1, "s,and,@200,%r4+3,#1,\n", 13), rows);
+    });
+}
+
+/// Request 07: 20 reads 9 times the budget, also where that is more than 65,535 or no step is done.
+#[test]
+fn room_for_nine_numbers() {
+    each(|on| {
+        let nop = stored(on, "u,nop,,,,\n");
+        for budget in [1, 2, 7_281, 7_282, 65_535] {
+            let enough = 9 * budget as usize;
+            for start in [0, 1, 65_535] {
+                let mut state = [7; STATE];
+                let mut trace = vec![5; enough];
+                for room in [enough - 1, 8 * budget as usize, 6 * budget as usize, 0] {
+                    let answer = on.run(&nop, start, budget, &mut state, &mut trace[..room]);
+                    assert_eq!(answer, refused(20, 0), "budget {budget}, room {room}");
+                }
+                assert!(state == [7; STATE] && trace.iter().all(|&number| number == 5));
+                let (counter, steps) = if start == 0 { (1, 1) } else { (start, 0) };
+                let answer = on.run(&nop, start, budget, &mut state, &mut trace);
+                assert_eq!(answer, Halted { counter, steps }, "budget {budget}");
+                assert!(trace[ROW * steps as usize..].iter().all(|&number| number == 5));
+            }
+        }
+    });
+}
+
+/// Request 07: the walk has the bus for one more place, with 0 at the start.
+#[test]
+fn the_bus_in_a_walk() {
+    each(|on| {
+        let two: &[(usize, &[u8])] = &[(1, &[1, 2]), (2, &[1, 2])];
+        let verdict = |text: &str| verdict(on, text, two);
+        let balanced = |steps: u16| Balanced { counter: steps, steps };
+        let leak = |line: u16| Leak { line, steps: line };
+        let lookup = "u,mov,r4,^r1+0,,\n";
+        assert_eq!(verdict(lookup), balanced(1));
+        // Read twice, both addresses are drawn apart, though every run has the same one twice.
+        assert_eq!(verdict(&lookup.repeat(2)), leak(1));
+        assert_eq!(verdict(&format!("{lookup}u,mov,r2,^r0+0,,\n{lookup}")), balanced(3));
+        // 257 and 258 are as far from 256 and from 259, but not from 257, read or written or in a branch.
+        assert_eq!(verdict(&format!("{lookup}u,mov,r5,@259,,\nu,mov,r5,@257,,\n")), balanced(3));
+        assert_eq!(verdict(&format!("{lookup}u,mov,r5,@257,,\n")), leak(1));
+        assert_eq!(verdict(&format!("{lookup}u,mov,@257,#0,,\n")), leak(1));
+        assert_eq!(verdict(&format!("{lookup}u,beq,,#0,@257,2\n")), leak(1));
+        // Both stay there over steps without address.
+        let over = "u,mov,r6,r7,,\nu,nop,,,,\nu,jmp,,,,4\n";
+        assert_eq!(verdict(&format!("{lookup}{over}u,beq,,@256,@257,5\n")), balanced(5));
+        assert_eq!(verdict(&format!("{lookup}{over}u,beq,,@257,@256,5\n")), leak(4));
+        // Within a step: from 3 to 1 or 2, from 1; one base twice, and two bases.
+        assert_eq!(verdict("u,add,r4,@3,!r1+0,\n"), balanced(1));
+        assert_eq!(verdict("u,add,r4,@1,!r1+0,\n"), leak(0));
+        assert_eq!(verdict("u,add,r4,!r1+0,!r1+16,\n"), balanced(1));
+        assert_eq!(verdict("u,add,r4,!r1+0,!r2+16,\n"), leak(0));
+    });
+}
+
+/// Request 07: 22 is of written places alone; as many addresses as a base has values may be on the bus.
+#[test]
+fn sixteen_addresses_on_the_bus() {
+    each(|on| {
+        // Four ones each.
+        let many: &[u8] = &[15, 23, 27, 29, 30, 39, 43, 45, 46, 51, 53, 54, 57, 58, 60, 71];
+        let text = "u,mov,r4,^r1+0,,\nu,mov,r5,^r0+0,,\nu,and,r6,^r1+0,^r1+128,\n";
+        assert_eq!(verdict(on, text, &[(1, many)]), Balanced { counter: 3, steps: 3 });
+        let text = "u,mov,r4,^r1+0,,\nu,and,r6,@256,^r2+0,\n";
+        assert_eq!(verdict(on, text, &[(1, many), (2, many)]), Balanced { counter: 2, steps: 2 });
+        assert_eq!(
+            verdict(on, "u,mov,r4,^r1+0,,\nu,nop,,,,\nu,mov,r4,@271,,\n", &[(1, many)]),
+            Leak { line: 2, steps: 2 }
+        );
     });
 }

@@ -55,7 +55,7 @@ fn finished(old: &Expanded, new: &Expanded, next: usize, image: &[u8]) -> ([u16;
 
 /// Every move at a stop gives the published ciphertext; to one layout, from all and with another key, with one trace.
 fn every_pair_at(expanded: &[Expanded], lines: &[usize], stop: usize) {
-    let (done, next) = (&lines[..stop], lines.get(stop).copied().unwrap_or(59));
+    let (done, next) = (&lines[..stop], lines.get(stop).copied().unwrap_or(56));
     let images = |key| -> Vec<Vec<u8>> { expanded.iter().map(|old| stopped(old, done, next, key)).collect() };
     let [ours, others] = [KEY, OTHER_KEY].map(images);
     for new in expanded {
@@ -80,14 +80,14 @@ fn stop_at(lines: &[usize], from: usize, line: usize) -> usize {
     from + lines[from..].iter().position(|&at| at == line).unwrap()
 }
 
-/// In the middle; between the marked lines of a round and of the key schedule, where r16 holds a bit that the
-/// next line needs; behind the marked line with a public bit; before the first line, and at the end.
+/// In the middle; between the marked lines of a round and of the key schedule, where r16, or r16 and r17, hold
+/// bits that the next lines need; behind the marked line with a public bit; before the first line, and at the end.
 #[test]
 fn moved_in_the_middle() {
     let (expanded, lines) = (expanded(), source_lines());
-    assert_eq!(lines.len(), 16_447);
+    assert_eq!(lines.len(), 14_683);
     let middle = lines.len() / 2;
-    let odd = [23, 46, 55].map(|line| stop_at(&lines, middle, line));
+    let odd = [23, 45, 52].map(|line| stop_at(&lines, middle, line));
     for stop in [middle, odd[0], odd[1], odd[2], 0, lines.len()] {
         every_pair_at(&expanded, &lines, stop);
     }

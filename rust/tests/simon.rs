@@ -38,8 +38,8 @@ fn published_ciphertext() {
         let (ciphertext, source_trace, trace) = both(on, Layout::LOWEST, &programs, KEY, PLAINTEXT);
         assert_eq!(ciphertext, CIPHERTEXT);
         // As examples/README.md says.
-        assert_eq!((TEXT.len(), programs.0.len() / SIX, source_trace.len() / ROW), (1_067, 59, 16_447));
-        assert_eq!((programs.1.len() / SIX, trace.len() / ROW), (177, 64_823));
+        assert_eq!((TEXT.len(), programs.0.len() / SIX, source_trace.len() / ROW), (1_013, 56, 14_683));
+        assert_eq!((programs.1.len() / SIX, trace.len() / ROW), (187, 61_579));
     }
 }
 

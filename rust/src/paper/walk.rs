@@ -1,8 +1,8 @@
 //! Request 01 of document 02, the walk over sets, from the paper alone like the
 //! rest: every choice of values is made, one after the other, and the machine's
-//! own step is done in each.
+//! own step is done in each. By request 07 the bus is one more place.
 
-use super::{base, place, refused, step, value, Line, Opcode, Operand, ROW, STATE};
+use super::{base, place, refused, step, value, Line, Opcode, Operand, Point, Row, STATE};
 use crate::answer::Answer;
 use std::collections::BTreeSet;
 
@@ -13,24 +13,31 @@ pub const SET: usize = 1 + MOST_VALUES;
 /// The values that a place may have; one listed twice is one value.
 pub type Values = BTreeSet<u8>;
 
+/// What a walk works on: the values of each place, and the addresses that the bus may hold.
+#[derive(Clone)]
+pub struct Sets {
+    pub places: Vec<Values>,
+    pub bus: BTreeSet<u16>,
+}
+
 /// What ends a walk before the run's own end: a refusal's number, or a leak.
+#[derive(Clone, Copy)]
 pub enum Stop {
     Refused(u16),
     Leak,
 }
 
-/// Lent bytes as one set of values for each place; else the refusal of the start.
-pub fn start(bytes: &[u8]) -> Result<Vec<Values>, Answer> {
+/// Lent bytes as one set of values for each place, and 0 on the bus; else the refusal of the start.
+pub fn start(bytes: &[u8]) -> Result<Sets, Answer> {
     if bytes.len() != SET * STATE {
         return Err(refused(18, 0));
     }
-    bytes
-        .chunks_exact(SET)
-        .map(|set| match set[0] as usize {
-            count @ 1..=MOST_VALUES => Ok(set[1..=count].iter().copied().collect()),
-            _ => Err(refused(22, 0)),
-        })
-        .collect()
+    let values = |set: &[u8]| match set[0] as usize {
+        count @ 1..=MOST_VALUES => Ok(set[1..=count].iter().copied().collect()),
+        _ => Err(refused(22, 0)),
+    };
+    let places: Result<Vec<Values>, Answer> = bytes.chunks_exact(SET).map(values).collect();
+    Ok(Sets { places: places?, bus: BTreeSet::from([0]) })
 }
 
 /// Each of the places takes each of its values, whatever the others take.
@@ -51,7 +58,7 @@ fn bases(operands: &[Operand]) -> Vec<usize> {
     once.into_iter().collect()
 }
 
-/// Every choice of a step: a state for each, right in all places that the step looks at.
+/// Every choice of a step, the bus apart: a state for each, right in all places that the step looks at.
 /// The bases are drawn first, as they decide which cells the others are. A place that is
 /// two of these is drawn once.
 pub fn choices(line: &Line, sets: &[Values], visit: &mut dyn FnMut(&[u8; STATE])) {
@@ -93,8 +100,8 @@ pub fn undecided(line: &Line, sets: &[Values]) -> bool {
         || arguments.into_iter().flatten().any(|operand| base_is(operand) || argument_is(operand))
 }
 
-/// One step on sets: gives the next counter, and the written place gets all results.
-pub fn step_on_sets(line: &Line, counter: u16, sets: &mut [Values]) -> Result<u16, Stop> {
+/// One step on sets: gives the next counter, and the written place and the bus get all results.
+pub fn step_on_sets(line: &Line, counter: u16, sets: &mut Sets) -> Result<u16, Stop> {
     step_on_sets_by(line, counter, sets, step)
 }
 
@@ -102,26 +109,31 @@ pub fn step_on_sets(line: &Line, counter: u16, sets: &mut [Values]) -> Result<u1
 pub fn step_on_sets_by(
     line: &Line,
     counter: u16,
-    sets: &mut [Values],
-    one_step: impl Fn(&Line, u16, &mut [u8]) -> (u16, [u16; ROW]),
+    sets: &mut Sets,
+    one_step: impl Fn(&Line, Point, &mut [u8]) -> (Point, Row),
 ) -> Result<u16, Stop> {
-    if undecided(line, sets) {
+    if undecided(line, &sets.places) {
         return Err(Stop::Refused(21));
     }
     // One place at most, as its base has one value.
-    let written = line.destination.map_or(BTreeSet::new(), |operand| reach(operand, sets));
-    let mut results = Values::new();
+    let written = line.destination.map_or(BTreeSet::new(), |operand| reach(operand, &sets.places));
+    let (mut results, mut buses) = (Values::new(), BTreeSet::new());
     // What all choices must have in common; after 21, the next counter always is.
     let mut outcomes = BTreeSet::new();
-    choices(line, sets, &mut |state| {
+    choices(line, &sets.places, &mut |state| {
         // Nothing that follows could change the answer.
         if results.len() > MOST_VALUES {
             return;
         }
-        let mut after = *state;
-        outcomes.insert(one_step(line, counter, &mut after));
-        results.extend(written.iter().map(|&place| after[place]));
+        for &bus in &sets.bus {
+            let mut after = *state;
+            let (next, row) = one_step(line, Point { counter, bus }, &mut after);
+            outcomes.insert((next.counter, row));
+            buses.insert(next.bus);
+            results.extend(written.iter().map(|&place| after[place]));
+        }
     });
+    // Of written places alone: the last address of a step has one base, so the bus never has more values.
     if results.len() > MOST_VALUES {
         return Err(Stop::Refused(22));
     }
@@ -130,17 +142,18 @@ pub fn step_on_sets_by(
         return Err(Stop::Leak);
     };
     for place in written {
-        sets[place] = results.clone();
+        sets.places[place] = results.clone();
     }
+    sets.bus = buses;
     Ok(next)
 }
 
 /// The walk from line 0, with the step that it is made of.
 pub fn walk(
     lines: &[Line],
-    mut sets: Vec<Values>,
+    mut sets: Sets,
     budget: u16,
-    one_step: fn(&Line, u16, &mut [Values]) -> Result<u16, Stop>,
+    mut one_step: impl FnMut(&Line, u16, &mut Sets) -> Result<u16, Stop>,
 ) -> Answer {
     let mut counter = 0;
     let mut steps = 0;

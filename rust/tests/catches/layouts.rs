@@ -271,12 +271,12 @@ fn made_anyway<T>(entry: InLayout<T>, layout: Layout, input: &[T], lent: &mut [T
 
 const OTHERS: [Variant; 9] = [
     Variant {
-        fault: "targets as if the spaced macro had 13 lines",
+        fault: "targets as if the spaced macro had 14 lines",
         targets: Some((|_, line| part(Layout::LOWEST, line), looked_up)),
         ..RIGHT
     },
     Variant {
-        fault: "17 as if the spaced macro had 13 lines",
+        fault: "17 as if the spaced macro had 14 lines",
         expand: |layout, program, out| match Paper.expand(Layout::LOWEST, program, &mut out.to_vec()) {
             Refused { number: 17, .. } if layout.is_one_of_six() => refused(17),
             _ => Paper.expand(layout, program, out),
