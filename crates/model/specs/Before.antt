@@ -1,6 +1,6 @@
 -- Request 03, 'Programs accepted before expand as before': the macros, the expansion and the acceptance of document 01, as they were before a
--- public bit could stand in a marked line, and the claim. Request 07 changes two lines of the table macro, with or without public bits, so the
--- macro stands here with them; those of not and mov are document 01's. Assumes nothing.
+-- public bit could stand in a marked line, and the claim. Request 07 changes a line of the table macro and adds one, with or without public bits,
+-- so the macro stands here with both; those of not and mov are document 01's. Assumes nothing.
 use mathlib.Core.Path.{_≡_}
 use mathlib.Core.Bool.{Bool, not, _&&_, _||_}
 use mathlib.Core.List.{List, [], _∷_, flatMap}

@@ -1,6 +1,6 @@
 -- Request 04, 'neighbours at position 0, as the two programs print, give the earlier bytes': the code, the table page, the images and the
--- macros as they stood before a layout could be chosen, in their numbers, and the claim. The two lines that request 07 changes in the table
--- macro of every layout stand in this one too. Assumes nothing.
+-- macros as they stood before a layout could be chosen, in their numbers, and the claim. The line that request 07 changes in the table macro
+-- of every layout, and the one that it adds, stand in this one too. Assumes nothing.
 use mathlib.Core.Path.{_≡_}
 use mathlib.Core.Bool.{Bool, true, false, cond, _||_}
 use mathlib.Core.List.{List, [], _∷_, _++_, flatMap}

@@ -15,7 +15,7 @@ use Rattle.model.specs.Step.{onBus, busAfter, row}
 use Rattle.sets.specs.Walk.{Sets, maxValues, values, heads, base, buses}
 use Rattle.sets.specs.Claims.{In, Drawn, Full, ExactSteps}
 use Rattle.sets.specs.Addresses.{addressBy, reached, addressed, lastAddressed}
-use Rattle.sets.proofs.Members.{first-in, few, in-map}
+use Rattle.sets.proofs.Members.{first-in, in-some, few, in-map}
 use Rattle.sets.proofs.DrawnStates.{heads-drawn, drawn-in, in-written, written-in, written-once, in-buses, buses-in, buses-once, by-steady, steady-row}
 
 pub address-base : (o : Operand) (s : State) → address o s ≡ addressBy o (getD s (base o) 0)
@@ -101,7 +101,7 @@ module _ (S : Sets) (l : Line) where
 -- ---- steps are exact
 
 pub exact : ExactSteps
-exact S F bus some-bus l k =
+exact S F bus l k =
     record {
       all-results = λ s D. in-written S l s F D;
       each-once = written-once S l;
@@ -113,5 +113,5 @@ exact S F bus some-bus l k =
       like-rows = λ t s u b c D E m n. sym (steady-row S bus l k s b F D m t) ∙ steady-row S bus l k u c F E n t;
       unlike-rows =
           by-steady (λ c. T (not c) → (s : State) × (u : State) × (b : ℕ) × (c : ℕ) × Drawn S s × Drawn S u × In b bus × In c bus × (row l k s b ≡ row l k u c → ⊥)) S bus l k F
-          (λ all t. absurd t) (λ u c E m n t. (heads S, u, getD bus 0 0, c, heads-drawn S F, E, first-in bus some-bus, m, n));
+          (λ all t. absurd t) (λ u c E m n t. (heads S, u, getD bus 0 0, c, heads-drawn S F, E, first-in bus (in-some c bus m), m, n));
     }

@@ -101,4 +101,4 @@ pub record Exact (S : Sets) (bus : List ℕ) (l : Line) (k : ℕ) : Type 0 where
       → (s : State) × (u : State) × (b : ℕ) × (c : ℕ) × Drawn S s × Drawn S u × In b bus × In c bus × (row l k s b ≡ row l k u c → ⊥)
 
 abbrev pub ExactSteps : Type 0
-ExactSteps = (S : Sets) → Full S → (bus : List ℕ) → 0 < length bus → (l : Line) (k : ℕ) → Exact S bus l k
+ExactSteps = (S : Sets) → Full S → (bus : List ℕ) (l : Line) (k : ℕ) → Exact S bus l k
