@@ -2,6 +2,7 @@
 // Nothing here allocates, and an empty slice may have any pointer. include/dualrail.h declares these functions.
 ghost use mathlib.Core.Path.{_≡_};
 ghost use mathlib.Core.List.{[], _∷_};
+ghost use Prim.Native.Nat.{_<_};
 ghost use Rattle.model.specs.Answers.{report};
 ghost use Rattle.model.specs.Text.{readOutcome, writeOutcome};
 ghost use Rattle.model.specs.Marks.{markCheck};
@@ -10,8 +11,11 @@ ghost use Rattle.model.specs.Images.{toImageOutcome, fromImageOutcome};
 ghost use Rattle.model.specs.Run.{runOutcome};
 ghost use Rattle.images.specs.Moving.{moveOutcome};
 ghost use Rattle.sets.specs.Walk.{told, verdictReport};
-ghost use Rattle.dualrail.specs.Packing.{packed, packedRun};
+ghost use Rattle.published.specs.Published.{takeInOutcome, sendOutOutcome};
+ghost use Rattle.published.specs.Passes.{conversion};
+ghost use Rattle.dualrail.specs.Packing.{placed, packed, packedRun};
 use model::Answer;
+use published::Converted;
 use sets::Verdict;
 
 // The entry points below but `run` give no ending, and `run` gives no count: these arms are what the definition says of them.
@@ -29,6 +33,25 @@ fn pack(answer: Answer) -> u64
             steps: _,
         } => 1,
         Answer::Refused { number, line } => (number as u64) * 4294967296 + (line as u64),
+    }
+}
+
+// A line as far as 32 bits hold it.
+fn place(line: usize) -> u64
+    ensures { λ r. ⌜ (r ≡ placed line) × (r < 4294967296) ⌝ }
+{
+    if line < 4294967295 {
+        return line as u64;
+    }
+    4294967295
+}
+
+fn pack_conversion(answer: Converted) -> u64
+    ensures { λ r. ⌜ r ≡ packed (conversion answer) ⌝ }
+{
+    match answer {
+        Converted::Count(n) => n as u64,
+        Converted::Refused { number, line } => (number as u64) * 4294967296 + place(line),
     }
 }
 
@@ -122,6 +145,22 @@ pub extern "C" fn dualrail_move_image(
         from,
         into,
     ))
+}
+
+#[no_mangle]
+pub extern "C" fn dualrail_take_in(text: &[u8], out: &mut [u8]) -> u64
+    ensures { λ r. ⌜ r ≡ packed (takeInOutcome (now (text .entry)) (now (out .entry)) .answer) ⌝ }
+    ensures { λ _. ⌜ now (out .exit) ∷ [] ≡ takeInOutcome (now (text .entry)) (now (out .entry)) .stores ⌝ }
+{
+    pack_conversion(published::take_in(text, out))
+}
+
+#[no_mangle]
+pub extern "C" fn dualrail_send_out(text: &[u8], out: &mut [u8]) -> u64
+    ensures { λ r. ⌜ r ≡ packed (sendOutOutcome (now (text .entry)) (now (out .entry)) .answer) ⌝ }
+    ensures { λ _. ⌜ now (out .exit) ∷ [] ≡ sendOutOutcome (now (text .entry)) (now (out .entry)) .stores ⌝ }
+{
+    pack_conversion(published::send_out(text, out))
 }
 
 #[no_mangle]

@@ -1,8 +1,8 @@
 // The section Edges of document 01, the walk on sets of request 01, the shift counts of request 02, the public bits of request 03, the
-// layouts of request 04, the listings of jumps of request 05, the moves of request 06, the address bus of request 07, and an input for every
-// refusal: runs the cases of the file `stdin` beside src/, prints `ok` or `WRONG` and the name of each, and the gate holds that to the file
-// `stdout`. The cases are data, read beside the paper, and more cost no proof; notation.rt has how they are written. All here is proved safe
-// and ending; that the answers are right is the contract of what it calls.
+// layouts of request 04, the listings of jumps of request 05, the moves of request 06, the address bus of request 07, the published spelling of
+// request 08, and an input for every refusal: runs the cases of the file `stdin` beside src/, prints `ok` or `WRONG` and the name of each, and
+// the gate holds that to the file `stdout`. The cases are data, read beside the paper, and more cost no proof; notation.rt has how they are
+// written. All here is proved safe and ending; that the answers are right is the contract of what it calls.
 ghost use Prim.Native.Nat.{_≤_};
 ghost use lib.ListN.{length};
 use crate::notation::BEFORE;
@@ -29,6 +29,7 @@ use model::LINE_WIDTH;
 use model::MAX_LINES;
 use model::ROW_WIDTH;
 use model::STATE_SIZE;
+use published::Converted;
 
 mod notation;
 
@@ -206,6 +207,31 @@ fn judges(line: &[u8], program: &[u16], sets: &mut [u8]) -> bool {
     is_verdict(line, walk::judge(program, &sets[0..bytes], budget))
 }
 
+// What a conversion answers, where its numbers are those of an answer.
+fn answer_of(converted: Converted) -> Answer {
+    match converted {
+        Converted::Count(n) => Answer::Count(least(n, BYTE_ROOM) as u32),
+        Converted::Refused { number, line } => Answer::Refused {
+            number,
+            line: least(line, LARGEST) as u16,
+        },
+    }
+}
+
+// A published text taken in.
+fn takes_in(line: &[u8], input: &[u8], bytes: &mut [u8]) -> bool {
+    let room = size(line, 0, bytes.len());
+    let answer = answer_of(published::take_in(input, &mut bytes[0..room]));
+    is_right(line, answer, bytes, &[0u16; 0]) & is_text(line, bytes)
+}
+
+// A text sent out.
+fn sends_out(line: &[u8], input: &[u8], bytes: &mut [u8]) -> bool {
+    let room = size(line, 0, bytes.len());
+    let answer = answer_of(published::send_out(input, &mut bytes[0..room]));
+    is_right(line, answer, bytes, &[0u16; 0]) & is_text(line, bytes)
+}
+
 // ---- the cases
 
 // Makes the call that a case names; the first letter tells them apart. The arrays come in with their sizes, so that a proof of their
@@ -230,6 +256,8 @@ fn comes_out_on(
         b'b' => makes_bits(line, state, bytes),
         b'o' => moves_image(line, state, bytes),
         b'j' => judges(line, program, bytes),
+        b'p' => takes_in(line, field(line, PROGRAM), bytes),
+        b's' => sends_out(line, field(line, PROGRAM), bytes),
         _ => false,
     }
 }

@@ -30,7 +30,7 @@ fn is_marked(m: u16) -> bool
 }
 
 // The kind of the places that an operand names.
-fn kind_of(code: u16) -> Kind
+pub fn kind_of(code: u16) -> Kind
     ensures { λ r. ⌜ r ≡ kindOf (operandOf code) ⌝ }
 {
     if code < REGISTERS {
@@ -264,7 +264,7 @@ fn bare_fault(count: u16, t: u16) -> u8
 }
 
 // The lowest of the conditions 10 to 16 that six numbers break in a program of so many lines; 0 for none.
-fn mark_fault(count: u16, m: u16, o: u16, d: u16, a: u16, b: u16, t: u16) -> u8
+pub fn mark_fault(count: u16, m: u16, o: u16, d: u16, a: u16, b: u16, t: u16) -> u8
     ensures { λ r. ⌜ r ≡ markFault count (lineOf m o d a b t) ⌝ }
 {
     if is_bare(m, d, a, b) {

@@ -80,7 +80,7 @@ fn put_indirect(out: &mut [u8], at: usize, c: u8, b: u16, k: u16) -> usize
 }
 
 // An operand's number; 0 is an empty field.
-fn put_operand(out: &mut [u8], at: usize, k: u16) -> usize
+pub fn put_operand(out: &mut [u8], at: usize, k: u16) -> usize
     requires { ⌜ at + 13 ≤ printable ⌝ }
     ensures { λ r. ⌜ Wrote (now (out .entry)) (now (out .exit)) at r (spellOperand (operandOf k)) 13 ⌝ }
 {
@@ -153,7 +153,7 @@ fn letters(k: u16) -> u32
 }
 
 // An opcode's number.
-fn put_opcode(out: &mut [u8], at: usize, k: u16) -> usize
+pub fn put_opcode(out: &mut [u8], at: usize, k: u16) -> usize
     requires { ⌜ at + 3 ≤ printable ⌝ }
     ensures { λ r. ⌜ Wrote (now (out .entry)) (now (out .exit)) at r (spellOpcode (opcodeOf k)) 3 ⌝ }
 {

@@ -19,7 +19,7 @@ pub fn find(s: &[u8], c: u8) -> usize
 }
 
 // What stands after the byte at n: nothing where there is none.
-pub(crate) fn beyond(s: &[u8], n: usize) -> &[u8]
+pub fn beyond(s: &[u8], n: usize) -> &[u8]
     ensures { λ r. ⌜ now r ≡ drop (n + 1) (now (s .entry)) ⌝ }
 {
     let len = s.len();

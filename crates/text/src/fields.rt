@@ -45,7 +45,7 @@ fn digits(s: &[u8], n: u16) -> Field
 }
 
 // A number below n, in decimal with no leading zero.
-fn number(s: &[u8], n: u16) -> Field
+pub fn number(s: &[u8], n: u16) -> Field
     ensures { λ r. ⌜ r ≡ readNumber n (now (s .entry)) ⌝ }
 {
     if s.len() == 0 {
@@ -143,7 +143,7 @@ fn name(a: u8, b: u8, c: u8) -> u16
 }
 
 // The number of the opcode that s names.
-pub(crate) fn opcode(s: &[u8]) -> Field
+pub fn opcode(s: &[u8]) -> Field
     ensures { λ r. ⌜ found r ≡ opcodeField (now (s .entry)) .number ⌝ }
 {
     if s.len() != 3 {
@@ -157,7 +157,7 @@ pub(crate) fn opcode(s: &[u8]) -> Field
 }
 
 // A number below n, and more.
-fn plain(s: &[u8], n: u16, more: u16) -> Field
+pub fn plain(s: &[u8], n: u16, more: u16) -> Field
     requires { ⌜ (0 < n) × (n + more < 65536) ⌝ }
     ensures { λ r. ⌜ r ≡ shift more (readNumber n (now (s .entry))) ⌝ }
 {

@@ -9,7 +9,7 @@ ghost use Rattle.model.specs.Text.{frontLine, readOutcome};
 ghost use Rattle.text.specs.Lines.{meaning, numbersOf, kept};
 
 pub mod cut;
-mod fields;
+pub mod fields;
 pub mod line;
 mod scanning;
 
@@ -23,7 +23,7 @@ use model::LINE_WIDTH;
 use model::MAX_LINES;
 
 // What reading a field finds: the field's stored number, or that its spelling is wrong.
-pub(crate) enum Field {
+pub enum Field {
     Is(u16),
     Wrong,
 }

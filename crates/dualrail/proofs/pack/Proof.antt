@@ -1,3 +1,5 @@
+-- `dualrail::pack` meets its contract. Assumes nothing.
+use Rattle.dualrail.proofs.Told.{small-line}
 -- `dualrail::pack` meets its contract. An arm for each answer, by computation.
 -- Assumes nothing.
 use borrow.Author.Needs.{needs}
@@ -41,7 +43,7 @@ returns-3 : tie.Need-returns-3
 returns-3 c = search needs
 
 returns-4 : tie.Need-returns-4
-returns-4 c = cc
+returns-4 c = small-line (c .before .before .before .args .answer) _ _ (c .before .answer2 .given .1) (search needs)
 
 pub pack-spec : {M : Type 1} → statement M
 pack-spec =
