@@ -4,8 +4,8 @@
  * touched; an empty slice may have any pointer. The slices of one call must not overlap. Lengths count elements. docs/STORED-LINES.md
  * lays down the numbers of a stored line, docs/LANGUAGE.md lists the refusals.
  *
- * Room that is always enough: 18 lines of expansion for each line, 34 bytes of text for each line, 9 numbers of trace for each step of
- * the budget. A state has 544 bytes. Sets of values have 17 bytes for each place, in the order of the state: a count, 1 to 16, the values,
+ * Room that is always enough: 18 lines of expansion for each line, 34 bytes of text for each line, 61 bytes of published text for each line
+ * and 8 more, 9 numbers of trace for each step of the budget. A state has 544 bytes. Sets of values have 17 bytes for each place, in the order of the state: a count, 1 to 16, the values,
  * the rest ignored.
  *
  * A layout says which two bits a code has. It is two numbers: a position of 0, 1 or 2, then a spacing, 0 for neighbouring bits or 1 for bits
@@ -13,7 +13,7 @@
  * refused with 23 at line 0, before all else.
  *
  * An answer is one number. Of all functions but the last two: number * 2^32 + value, where number 0 is success and value its count, and
- * any other number is a refusal and value its line. Of dualrail_run and dualrail_judge: ending * 2^32 + counter * 2^16 + steps, ending 0
+ * any other number is a refusal and value its line; a line beyond 2^32 - 1, which a published text may have, is given as 2^32 - 1. Of dualrail_run and dualrail_judge: ending * 2^32 + counter * 2^16 + steps, ending 0
  * halted or balanced, 1 spent and 2 a leak, with its line for the counter, or, refused, number * 2^48 + line. A refusal leaves all lent
  * memory as it was, except that a refused reading leaves the lines before the bad one in the store.
  */
@@ -53,6 +53,12 @@ uint64_t dualrail_from_image(uint8_t position, uint8_t spacing, const uint8_t *i
  * source line has there (docs/LANGUAGE.md). Refusals 23 (of either layout), 18, 19 (by the old one). */
 uint64_t dualrail_move_image(uint8_t old_position, uint8_t old_spacing, uint8_t new_position, uint8_t new_spacing,
                              const uint8_t *from, size_t from_length, uint8_t *into, size_t into_length);
+
+/* Takes a published text of any length in: writes it in line text; counts the bytes. Refusals 24, 25 at the lowest text line, then 17. */
+uint64_t dualrail_take_in(const uint8_t *text, size_t text_length, uint8_t *out, size_t out_length);
+
+/* Sends line text out: writes it in the published spelling; counts the bytes. Refusals 7, 1 to 6, 9 to 16, then 17. */
+uint64_t dualrail_send_out(const uint8_t *text, size_t text_length, uint8_t *out, size_t out_length);
 
 /* Runs a stored program from a start counter with a budget of steps, changes the state and writes a row of nine numbers for each step.
  * Refusals 7, 3 to 6, 18, 20. */

@@ -99,7 +99,7 @@ impl Layout {
     }
 }
 
-/// The nine entry points.
+/// The eleven entry points.
 pub trait Dualrail {
     /// Reads a text into stored lines.
     fn read(&self, text: &[u8], store: &mut [u16]) -> Answer;
@@ -119,6 +119,10 @@ pub trait Dualrail {
     fn run(&self, program: &[u16], start: u16, budget: u16, state: &mut [u8], trace: &mut [u16]) -> Answer;
     /// Judges a stored program, with 17 bytes for each place: how many values it may have, and these.
     fn judge(&self, program: &[u16], sets: &[u8], budget: u16) -> Answer;
+    /// Turns published text into our line form.
+    fn take_in(&self, text: &[u8], out: &mut [u8]) -> Answer;
+    /// Turns text in our line form into published text.
+    fn send_out(&self, text: &[u8], out: &mut [u8]) -> Answer;
 }
 
 #[cfg(test)]
@@ -129,6 +133,7 @@ mod tests {
     fn packing() {
         assert_eq!(Answer::from_count(1_114_112), Counted(1_114_112));
         assert_eq!(Answer::from_count(7 << 32 | 32_768), Refused { number: 7, line: 32_768 });
+        assert_eq!(Answer::from_count(25 << 32 | 0xffff_ffff), Refused { number: 25, line: 4_294_967_295 });
         assert_eq!(Answer::from_run(3 << 16 | 2), Halted { counter: 3, steps: 2 });
         assert_eq!(Answer::from_run(1 << 32 | 65_535), Spent { counter: 0, steps: 65_535 });
         assert_eq!(Answer::from_run(20 << 48), Refused { number: 20, line: 0 });

@@ -14,9 +14,11 @@ use std::panic::{catch_unwind, AssertUnwindSafe};
 pub mod bus;
 pub mod jumps;
 pub mod moves;
+pub mod published;
 use bus::Bus;
 use jumps::Jumps;
 use moves::Moves;
+use published::Published;
 
 #[derive(Clone, Copy, Debug, PartialEq)]
 pub enum Entry {
@@ -29,6 +31,8 @@ pub enum Entry {
     MoveImage,
     Run,
     Judge,
+    TakeIn,
+    SendOut,
 }
 
 /// The entry points that take one layout.
@@ -72,6 +76,8 @@ impl Call {
             Entry::MoveImage => on.move_image(layout, new, bytes, lent_bytes),
             Entry::Run => on.run(numbers, start, budget, lent_bytes, lent_numbers),
             Entry::Judge => on.judge(numbers, bytes, budget),
+            Entry::TakeIn => on.take_in(bytes, lent_bytes),
+            Entry::SendOut => on.send_out(bytes, lent_bytes),
         }
     }
 
@@ -84,7 +90,9 @@ impl Call {
         let text = String::from_utf8_lossy(self.bytes.part()).into_owned();
         let mut shown = format!("{:?}, {:?}\n", self.entry, self.small);
         match self.entry {
-            Entry::Read => shown += &(format!("text as string: {text:.20000?}\n") + &self.bytes.show("text")),
+            Entry::Read | Entry::TakeIn | Entry::SendOut => {
+                shown += &(format!("text as string: {text:.20000?}\n") + &self.bytes.show("text"))
+            }
             Entry::ToImage | Entry::FromImage | Entry::MoveImage => shown += &self.bytes.show("state"),
             _ => shown += &(self.numbers.show("program") + &show_lines(self.numbers.part())),
         }
@@ -114,12 +122,15 @@ fn show_sets(bytes: &[u8]) -> String {
     shown + "\n"
 }
 
+/// One more than the last number of a refusal.
+pub const REFUSALS: usize = 26;
+
 /// What has been tried.
 #[derive(Clone, Default)]
 pub struct Counts {
     pub calls: u64,
-    pub entries: [u64; 9],
-    pub refusals: [u64; 24],
+    pub entries: [u64; 11],
+    pub refusals: [u64; REFUSALS],
     pub halted: u64,
     pub spent: u64,
     pub steps: u64,
@@ -127,7 +138,7 @@ pub struct Counts {
     pub balanced: u64,
     pub spent_walks: u64,
     pub leaks: u64,
-    pub refused_walks: [u64; 24],
+    pub refused_walks: [u64; REFUSALS],
     pub crowded: u64,
     pub steps_on_sets: u64,
     /// Runs from states drawn out of a walk's sets, and leaks that two such runs show.
@@ -151,10 +162,11 @@ pub struct Counts {
     pub public_bits: u64,
     /// Walks of their expansions on the images of each layout: balanced, spent.
     pub image_walks: [[u64; 2]; 6],
-    /// Of programs full of jumps, of moves, and of the bus.
+    /// Of programs full of jumps, of moves, of the bus, and of published text.
     pub jumps: Jumps,
     pub moves: Moves,
     pub bus: Bus,
+    pub published: Published,
 }
 
 /// Which of the six a layout is.
@@ -220,6 +232,8 @@ impl Counts {
             Entry::MoveImage,
             Entry::Run,
             Entry::Judge,
+            Entry::TakeIn,
+            Entry::SendOut,
         ];
         for entry in entries {
             shown += &format!(" {entry:?} {}", self.entries[entry as usize]);
@@ -250,7 +264,7 @@ impl Counts {
             );
         }
         shown += &format!("\nimages refused that another layout takes: {}", self.other_images);
-        shown + &self.jumps.show() + &self.moves.show() + &self.bus.show()
+        shown + &self.jumps.show() + &self.moves.show() + &self.bus.show() + &self.published.show()
     }
 }
 
@@ -416,7 +430,7 @@ impl Comparison<'_> {
         if case % 25 == 0 {
             return self.long(case / 25);
         }
-        match self.rng.below(19) {
+        match self.rng.below(21) {
             0..=3 => {
                 let lines = make::accepted_program(&mut self.rng);
                 self.whole_way(&lines)
@@ -428,6 +442,7 @@ impl Comparison<'_> {
             12 => self.jumps(),
             13..=14 => self.moves(),
             15..=16 => self.bus(),
+            17..=18 => self.published(),
             _ => self.walks(),
         }
     }
@@ -643,10 +658,10 @@ impl Comparison<'_> {
 
     // ------------------------------------------------------------ long ones
 
-    /// The sizes where 7 and 9 begin, and the longest runs.
+    /// The sizes where 7 and 9 begin, the longest texts and the longest runs.
     fn long(&mut self, which: u64) -> Result<(), String> {
         let near = self.rng.pick(&[0, 1, 2, 2, 2]);
-        match which % 5 {
+        match which % 6 {
             0 => self.long_text(MOST_LINES - 1 + near),
             1 => self.long_stored(MOST_LINES - 1 + near),
             2 => self.long_accepted(MOST_CHECKED - 1 + near),
@@ -655,6 +670,7 @@ impl Comparison<'_> {
                 let lines = make::long_program(&mut self.rng, count, true);
                 self.whole_way(&lines)
             }
+            4 => self.long_published(),
             _ => self.long_run(),
         }
     }

@@ -57,6 +57,8 @@ extern "C" {
         sets_length: usize,
         budget: u16,
     ) -> u64;
+    fn dualrail_take_in(text: *const u8, text_length: usize, out: *mut u8, out_length: usize) -> u64;
+    fn dualrail_send_out(text: *const u8, text_length: usize, out: *mut u8, out_length: usize) -> u64;
 }
 
 // Safe, all of them: a pointer and its length come from one slice, and two
@@ -131,6 +133,14 @@ pub fn judge(program: &[u16], sets: &[u8], budget: u16) -> Answer {
     })
 }
 
+pub fn take_in(text: &[u8], out: &mut [u8]) -> Answer {
+    Answer::from_count(unsafe { dualrail_take_in(text.as_ptr(), text.len(), out.as_mut_ptr(), out.len()) })
+}
+
+pub fn send_out(text: &[u8], out: &mut [u8]) -> Answer {
+    Answer::from_count(unsafe { dualrail_send_out(text.as_ptr(), text.len(), out.as_mut_ptr(), out.len()) })
+}
+
 /// The static library as one of the implementations.
 pub struct Library;
 
@@ -161,6 +171,12 @@ impl Dualrail for Library {
     }
     fn judge(&self, program: &[u16], sets: &[u8], budget: u16) -> Answer {
         judge(program, sets, budget)
+    }
+    fn take_in(&self, text: &[u8], out: &mut [u8]) -> Answer {
+        take_in(text, out)
+    }
+    fn send_out(&self, text: &[u8], out: &mut [u8]) -> Answer {
+        send_out(text, out)
     }
 }
 
@@ -200,6 +216,14 @@ mod tests {
             assert_eq!(dualrail_judge(odd, 0, sets.as_ptr(), sets.len(), 0), 0);
             assert_eq!(dualrail_judge(null(), 0, null(), 0, 1), 18 << 48);
             assert_eq!(dualrail_judge(odd, 0, odd.cast(), 0, 1), 18 << 48);
+            assert_eq!(dualrail_take_in(null(), 0, null_mut(), 0), 0);
+            assert_eq!(dualrail_take_in(odd.cast(), 0, image.as_mut_ptr(), 544), 0);
+            assert_eq!(dualrail_take_in(b"nop\n".as_ptr(), 4, null_mut(), 0), refused(17));
+            assert_eq!(dualrail_take_in(b";\n".as_ptr(), 2, odd.cast(), 0), 0);
+            assert_eq!(dualrail_send_out(null(), 0, null_mut(), 0), 0);
+            assert_eq!(dualrail_send_out(odd.cast(), 0, image.as_mut_ptr(), 544), 0);
+            assert_eq!(dualrail_send_out(b"u,nop,,,,\n".as_ptr(), 10, null_mut(), 0), refused(17));
+            assert_eq!(dualrail_send_out(b"\n".as_ptr(), 1, odd.cast(), 0), refused(2));
         }
         assert_eq!(image, [0; 544]);
     }

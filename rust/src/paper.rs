@@ -6,6 +6,7 @@ use crate::answer::{Answer, Dualrail, Layout};
 
 pub mod layout;
 pub mod moves;
+pub mod published;
 pub mod walk;
 
 /// Bytes of a state: the registers, then the cells.
@@ -794,5 +795,11 @@ impl Dualrail for Paper {
     }
     fn judge(&self, program: &[u16], sets: &[u8], budget: u16) -> Answer {
         stored_program(program).map_or_else(|answer| answer, |lines| walk::judge(&lines, sets, budget))
+    }
+    fn take_in(&self, text: &[u8], out: &mut [u8]) -> Answer {
+        published::take_in(text, out)
+    }
+    fn send_out(&self, text: &[u8], out: &mut [u8]) -> Answer {
+        published::send_out(text, out)
     }
 }

@@ -57,6 +57,8 @@ extern "C" {
         sets_length: usize,
         budget: u16,
     ) -> u64;
+    fn plain_take_in(text: *const u8, text_length: usize, out: *mut u8, out_length: usize) -> u64;
+    fn plain_send_out(text: *const u8, text_length: usize, out: *mut u8, out_length: usize) -> u64;
 }
 
 /// Plain C as one of the implementations; it packs its answers as the library does.
@@ -104,5 +106,11 @@ impl Dualrail for Plain {
         Answer::from_judge(unsafe {
             plain_judge(program.as_ptr(), program.len(), sets.as_ptr(), sets.len(), budget)
         })
+    }
+    fn take_in(&self, text: &[u8], out: &mut [u8]) -> Answer {
+        Answer::from_count(unsafe { plain_take_in(text.as_ptr(), text.len(), out.as_mut_ptr(), out.len()) })
+    }
+    fn send_out(&self, text: &[u8], out: &mut [u8]) -> Answer {
+        Answer::from_count(unsafe { plain_send_out(text.as_ptr(), text.len(), out.as_mut_ptr(), out.len()) })
     }
 }

@@ -22,6 +22,8 @@ mod jumps;
 mod layouts;
 #[path = "catches/moves.rs"]
 mod moves;
+#[path = "catches/published.rs"]
+mod published;
 
 /// An entry point with a layout.
 type InLayout<T> = fn(Layout, &[T], &mut [T]) -> Answer;
@@ -33,6 +35,8 @@ type Part = fn(Layout, &Line) -> Vec<Line>;
 type Change = fn(Layout, &mut [u8]);
 /// A change of a moved image, by the old layout and the new one, and by what it was before.
 type Moved = fn(Layout, Layout, &[u8], &mut [u8]);
+/// An entry point that turns one text into another.
+type Convert = fn(&[u8], &mut [u8]) -> Answer;
 /// What a target becomes, by the starts of the lines and of the end, the jump's line, and the target.
 type Aim = fn(&[usize], usize, usize) -> usize;
 
@@ -47,6 +51,8 @@ struct Variant {
     move_image: Move,
     run: fn(&[u16], u16, u16, &mut [u8], &mut [u16]) -> Answer,
     judge: fn(&[u16], &[u8], u16) -> Answer,
+    take_in: Convert,
+    send_out: Convert,
     /// The parts that an expansion is made of, if they are not the right ones.
     part: Option<Part>,
     /// The parts whose lengths the starts are added up of, and what targets then become, if not the right ones.
@@ -65,6 +71,9 @@ struct Variant {
     /// What is wrong with the bus at each step of a run, and of a walk.
     step: Option<bus::Fault>,
     step_of_walks: Option<bus::Fault>,
+    /// The rules by which published text is taken in and sent out, if they are not the right ones.
+    taking: Option<published::Taking>,
+    sending: Option<published::Sending>,
 }
 
 const RIGHT: Variant = Variant {
@@ -78,6 +87,8 @@ const RIGHT: Variant = Variant {
     move_image: |old, new, from, into| Paper.move_image(old, new, from, into),
     run: |program, start, budget, state, trace| Paper.run(program, start, budget, state, trace),
     judge: |program, sets, budget| Paper.judge(program, sets, budget),
+    take_in: |text, out| Paper.take_in(text, out),
+    send_out: |text, out| Paper.send_out(text, out),
     part: None,
     targets: None,
     made: |_, _| (),
@@ -89,6 +100,8 @@ const RIGHT: Variant = Variant {
     early: [0; 3],
     step: None,
     step_of_walks: None,
+    taking: None,
+    sending: None,
 };
 
 impl Variant {
@@ -183,6 +196,18 @@ impl Dualrail for Variant {
                 })
             }),
             None => (self.judge)(program, sets, budget),
+        }
+    }
+    fn take_in(&self, text: &[u8], out: &mut [u8]) -> Answer {
+        match &self.taking {
+            Some(rules) => published::taken_by(rules, text, out),
+            None => (self.take_in)(text, out),
+        }
+    }
+    fn send_out(&self, text: &[u8], out: &mut [u8]) -> Answer {
+        match &self.sending {
+            Some(rules) => published::sent_by(rules, text, out),
+            None => (self.send_out)(text, out),
         }
     }
 }
@@ -1728,6 +1753,8 @@ fn no_fault_but_the_named_ones() {
         made: layouts::right_entries,
         move_image: moves::composed,
         arrived: layouts::right_entries,
+        taking: Some(published::TAKING),
+        sending: Some(published::SENDING),
         run: |program, start, budget, state, trace| {
             run_taking((program, start, budget), state, trace, |line, state| {
                 reading(line, state, |_, _| Reads::Right)
@@ -1751,8 +1778,9 @@ fn every_fault_is_found() {
     let named = |variant: Variant| (variant.fault.to_string(), variant);
     let whole = variants().into_iter().chain(jumps::variants()).map(named).chain(layouts::variants());
     let (mut found, mut missed) = (0, vec![]);
-    for (fault, variant) in whole.chain(moves::variants()).chain(bus::variants()) {
-        match compare(&variant, 2, 1, 10_000) {
+    let whole = whole.chain(moves::variants()).chain(bus::variants()).chain(published::variants());
+    for (fault, variant) in whole {
+        match compare(&variant, 2, 1, 12_000) {
             Ok(_) => missed.push(fault),
             Err(report) => {
                 println!("{fault:60} {}", report.lines().next().unwrap());

@@ -3,13 +3,15 @@
 use dualrail::compare::bus::Bus;
 use dualrail::compare::jumps::Jumps;
 use dualrail::compare::moves::Moves;
+use dualrail::compare::published::{Published, FORMS};
 use dualrail::compare::{compare, Counts, WITH_LAYOUT};
 use dualrail::generate::moves::Damage;
+use dualrail::generate::published::Slip;
 use dualrail::paper::Opcode;
 use dualrail::plain::Plain;
 use dualrail::Library;
 
-const CASES: u64 = 100_000;
+const CASES: u64 = 120_000;
 
 fn from_environment(name: &str) -> Option<u64> {
     std::env::var(name).ok().map(|value| value.parse().expect("a number"))
@@ -48,6 +50,7 @@ fn library_against_paper() {
     jumps_are_met(&counts.jumps);
     moves_are_met(&counts.moves);
     the_bus_is_met(&counts.bus);
+    published_text_is_met(&counts.published);
 }
 
 /// Request 04: each of the six layouts often, in whole runs and walks too, and 23 before every other refusal.
@@ -153,6 +156,49 @@ fn the_bus_is_met(bus: &Bus) {
         ("leaks in distances alone", &[bus.leaks], 900),
         ("leaks of several addresses together", &[bus.of_several], 200),
         ("leaks in distances at a branch", &[bus.at_branch], 60),
+    ];
+    for (name, counts, least) in at_least {
+        assert!(counts.iter().all(|&count| count >= least), "{name}: {counts:?} only");
+    }
+}
+
+/// Request 08: every refusal on both sides, every slip with its number alone, every form of line, stores of every
+/// size, and texts that come home.
+fn published_text_is_met(published: &Published) {
+    let refusals: [&[usize]; 2] =
+        [&[0, 17, 24, 25], &[0, 1, 2, 3, 4, 5, 6, 7, 9, 10, 11, 12, 14, 15, 16, 17]];
+    for (answers, numbers) in published.answers.iter().zip(refusals) {
+        for (number, &count) in answers.iter().enumerate() {
+            match numbers.contains(&number) {
+                true => assert!(count >= 80, "{number} came {count} times only"),
+                false => assert_eq!(count, 0, "{number} came"),
+            }
+        }
+    }
+    for slip in Slip::all() {
+        let [taken, first, second] = published.slips[&slip];
+        let right = match slip {
+            _ if Slip::HARMLESS.contains(&slip) => taken >= 300 && first == 0 && second == 0,
+            _ if Slip::REFUSED_24.contains(&slip) => taken == 0 && first >= 300 && second == 0,
+            _ if Slip::REFUSED_25.contains(&slip) => taken == 0 && first == 0 && second >= 300,
+            _ => taken >= 200 && first >= 200 && second >= 200,
+        };
+        assert!(
+            right,
+            "{slip:?}: taken {taken} times, refused with 24 {first} times, with 25 {second} times"
+        );
+    }
+    for ((name, _), count) in FORMS.iter().zip(published.forms) {
+        assert!(count >= 5_000, "{name} came {count} times only");
+    }
+    let at_least = [
+        ("stores", published.rooms.as_flattened(), 500),
+        ("texts of 1,024 lines, of 1,025 labels", &[published.longest, published.most_labels], 300),
+        ("refusals past line 65,535", &published.far, 50),
+        ("labels sent out", &published.labels, 500),
+        ("lines sent out without", &[published.unlabelled], 10_000),
+        ("refusals of reading past line 1,023", &published.behind[1..7], 30),
+        ("texts that came home", &published.home, 2_000),
     ];
     for (name, counts, least) in at_least {
         assert!(counts.iter().all(|&count| count >= least), "{name}: {counts:?} only");

@@ -1,9 +1,10 @@
-//! The edges and examples that the papers print, and a few for the walk, for the layouts, for jumps, for moves and
-//! for the bus.
+//! The edges and examples that the papers print, and a few for the walk, for the layouts, for jumps, for moves, for
+//! the bus and for the published spelling.
 
 use dualrail::paper::walk::SET;
 use dualrail::paper::{Paper, ROW, SIX, STATE};
 use dualrail::plain::Plain;
+use dualrail::simon;
 use dualrail::Answer::{self, *};
 use dualrail::{Dualrail, Layout, Library};
 
@@ -1148,5 +1149,327 @@ fn sixteen_addresses_on_the_bus() {
             verdict(on, "u,mov,r4,^r1+0,,\nu,nop,,,,\nu,mov,r4,@271,,\n", &[(1, many)]),
             Leak { line: 2, steps: 2 }
         );
+    });
+}
+
+/// What a published text becomes in our line form; else the refusal, which leaves the store as it was.
+fn taken_in(on: &dyn Dualrail, text: &[u8]) -> Result<String, Answer> {
+    let mut out = vec![7; 40_000];
+    let answer = on.take_in(text, &mut out);
+    text_or_refusal(answer, out)
+}
+
+/// What a text in our line form becomes as published text, likewise.
+fn sent_out(on: &dyn Dualrail, text: &[u8]) -> Result<String, Answer> {
+    let mut out = vec![7; 40_000];
+    let answer = on.send_out(text, &mut out);
+    text_or_refusal(answer, out)
+}
+
+fn text_or_refusal(answer: Answer, mut out: Vec<u8>) -> Result<String, Answer> {
+    let count = if let Counted(count) = answer { count as usize } else { 0 };
+    assert!(out[count..].iter().all(|&byte| byte == 7), "{answer:?}: the rest is not as it was");
+    out.truncate(count);
+    match answer {
+        Counted(_) => Ok(String::from_utf8(out).unwrap()),
+        _ => Err(answer),
+    }
+}
+
+/// Request 08: each pair is a published text and what it is taken in as.
+fn all_taken_in(on: &dyn Dualrail, pairs: &[(&str, &str)]) {
+    for (text, ours) in pairs {
+        assert_eq!(taken_in(on, text.as_bytes()), Ok(ours.to_string()), "{text:?}");
+    }
+}
+
+/// Request 08: each is refused with this number, at the line that stands beside it.
+fn all_refused(on: &dyn Dualrail, number: u16, texts: &[(&[u8], u32)]) {
+    for &(text, line) in texts {
+        let shown = String::from_utf8_lossy(&text[..text.len().min(200)]);
+        assert_eq!(taken_in(on, text), Err(refused(number, line)), "{shown:?}");
+    }
+}
+
+/// Request 08: blanks, comments, operands and marks.
+#[test]
+fn published_lines() {
+    each(|on| {
+        all_taken_in(
+            on,
+            &[
+                ("", ""),
+                ("\n", ""),
+                (" \t\n;a comment: nop\n\t ; another\n", ""),
+                ("mov r5 !r4,3\n", "u,mov,r5,!r4+3,,\n"),
+                ("mov r5 !r4\n", "u,mov,r5,!r4+0,,\n"),
+                ("mov r5 !r4,0\n", "u,mov,r5,!r4+0,,\n"),
+                ("mov r5 !r4,127\n", "u,mov,r5,!r4+127,,\n"),
+                ("mov r16 !r4,128\n", "s,mov,r16,%r4+0,,\n"),
+                ("mov r16 !r4,255\n", "s,mov,r16,%r4+127,,\n"),
+                (" \tmov\t r5  !r4,3 \t;x\n", "u,mov,r5,!r4+3,,\n"),
+                ("mov r5 !r4,3;,x\n", "u,mov,r5,!r4+3,,\n"),
+                ("mov r5 @1;27;\r\0:\n", "u,mov,r5,@1,,\n"),
+                // The mark is s exactly where the destination is sensitive.
+                ("xor r16 r16 r4\n", "s,xor,r16,r16,r4,\n"),
+                ("mov !r4,128 #1\n", "s,mov,%r4+0,#1,,\n"),
+                ("mov !r4,127 #255\n", "u,mov,!r4+127,#255,,\n"),
+                ("not @128 @127\nnot @127 @0\n", "s,not,@128,@127,,\nu,not,@127,@0,,\n"),
+                ("mov r15 #2\nmov r31 #1\nnop\n", "u,mov,r15,#2,,\ns,mov,r31,#1,,\nu,nop,,,,\n"),
+            ],
+        );
+    });
+}
+
+/// Request 08: a label names its line, the next counted one, or the end.
+#[test]
+fn published_labels() {
+    each(|on| {
+        all_taken_in(
+            on,
+            &[
+                ("a: jmp a\n", "u,jmp,,,,0\n"),
+                ("a:\njmp a\n", "u,jmp,,,,0\n"),
+                ("jmp a\n\n;a\na: ;\n \n", "u,jmp,,,,1\n"),
+                ("nop\na:\nb: ;b\n\nc: nop\nbeq r4 #0 a\nbne r4 r5 b\njmp c\n", JUMPS_TO_1),
+                ("a:\n", ""),
+                ("nop: jmp nop\n5: jmp 5\njmp 007\n007:\n", "u,jmp,,,,0\nu,jmp,,,,1\nu,jmp,,,,3\n"),
+                ("nop\nr4: beq r4 r4 r4\n", "u,nop,,,,\nu,beq,,r4,r4,1\n"),
+                // Case counts, and so does each of 16 letters.
+                ("nop\na: nop\nA: jmp A\njmp a\n", "u,nop,,,,\nu,nop,,,,\nu,jmp,,,,2\nu,jmp,,,,1\n"),
+                (
+                    "jmp abcdefghijklmn15\nabcdefghijklmn16:\nnop\nabcdefghijklmn15: nop\n",
+                    "u,jmp,,,,2\nu,nop,,,,\nu,nop,,,,\n",
+                ),
+            ],
+        );
+    });
+}
+
+const JUMPS_TO_1: &str = "u,nop,,,,\nu,nop,,,,\nu,beq,,r4,#0,1\nu,bne,,r4,r5,1\nu,jmp,,,,1\n";
+
+/// Request 08: 24 a label missing, double, or beyond the limits.
+#[test]
+fn published_24() {
+    each(|on| {
+        all_refused(
+            on,
+            24,
+            &[
+                (b"jmp a\n", 0),
+                (b";\n\nb: beq r4 r5 a\n", 2),
+                (b"jmp A\na:\n", 0),
+                (b"jmp abcdefghijklmno17\n", 0),
+                (b"abcdefghijklmno17:\n", 0),
+                (b"nop\njmp abcdefghijklmno17\nabcdefghijklmno17:\n", 1),
+                (b"a:\nnop\na: nop\na:\n", 2),
+                (b":\n", 0),
+                (b"nop\na_b:\n", 1),
+                (b"a:b:\n", 0),
+                (b"\xe4:\n", 0),
+                (b"a\r:\n", 0),
+                // A target counts though its line is bad in other things.
+                (b"beq #256 r4 a\n", 0),
+                (b"beq r16 r4 a\n", 0),
+                (b"jmp a", 0),
+                // 24 before 25 on a line, and the lowest line first.
+                (b"a:\na: nopp\nnopp\n", 1),
+                (b"a_b: mov r4 r16\n", 0),
+                (b"jmp b\nnopp\n", 0),
+            ],
+        );
+    });
+}
+
+/// Request 08: operands without counterpart, for any reason that they have.
+#[test]
+fn published_operands() {
+    each(|on| {
+        let operands = [
+            "#256", "#01", "#", "r32", "r04", "R4", "@512", "@01", "!r4,256", "!r4,03", "!r4,", "!r32",
+            "!#5", "!@5", "!4", "%r4+3", "%r4,3", "^r4+0", "!r4+3", "!r4,3,3", "4", "a",
+        ];
+        for operand in operands {
+            for line in [format!("mov {operand} r4\n"), format!("add r4 r5 {operand}\n")] {
+                assert_eq!(taken_in(on, line.as_bytes()), Err(refused(25, 0)), "{line}");
+            }
+        }
+    });
+}
+
+/// Request 08: 25 anything else without counterpart.
+#[test]
+fn published_25() {
+    each(|on| {
+        all_refused(
+            on,
+            25,
+            &[
+                (b"nop\n\nor r4 r4 r5\n", 2),
+                (b"NOP\n", 0),
+                (b"u,nop,,,,\n", 0),
+                (b"nop r4\n", 0),
+                (b"mov r4\n", 0),
+                (b"jmp\n", 0),
+                (b"mov #1 r4\n", 0),
+                (b"mov r4 !r4, 3\n", 0),
+                (b"nop\r\n", 0),
+                (b"nop\x0b\n", 0),
+                (b"\0\n", 0),
+                (b"nop \xff\n", 0),
+                (b"a : nop\n", 0),
+                (b"a:nop\n", 0),
+                (b"a: b:\n", 0),
+                (b"jmp #0\n", 0),
+                (b"jmp a_b\n", 0),
+                (b"jmp a:\na:\n", 0),
+                // The last line has no newline.
+                (b"nop\nnop", 1),
+                (b"nop\n ", 1),
+                (b"nop\n;", 1),
+                // The mark check: 10, 12 twice, 14, 15.
+                (b"mov r4 r3\n", 0),
+                (b"mov r4 r16\n", 0),
+                (b"mov r4 !r16\n", 0),
+                (b"add r16 r16 r17\n", 0),
+                (b"mov r16 #2\n", 0),
+            ],
+        );
+    });
+}
+
+/// Request 08: the lowest text line goes first; which labels and targets count.
+#[test]
+fn published_order() {
+    each(|on| {
+        // A label counts though its line is bad; a target only with a known opcode and its count of parts.
+        all_refused(
+            on,
+            25,
+            &[
+                (b"jmp a\na: nopp\n", 1),
+                (b"jmp a\na: mov r4 r16\n", 1),
+                (b"jmp a\na:", 1),
+                (b"jump a\n", 0),
+                (b"jmp a a\n", 0),
+                (b"beq r4 a\n", 0),
+                (b"nopp\njmp b\n", 0),
+            ],
+        );
+        // 17 last, at line 0.
+        for (text, answer) in [
+            (&b"nop\n"[..], refused(17, 0)),
+            (b"\n\nnop\n", refused(17, 0)),
+            (b"nop\nnopp\n", refused(25, 1)),
+            (b"nop\njmp a\n", refused(24, 1)),
+        ] {
+            let mut out = [7; 9];
+            assert_eq!(on.take_in(text, &mut out), answer);
+            assert_eq!(out, [7; 9]);
+        }
+        let mut out = [7; 12];
+        assert_eq!(on.take_in(b"nop\n", &mut out[..10]), Counted(10));
+        assert_eq!(&out, b"u,nop,,,,\n\x07\x07");
+    });
+}
+
+/// Request 08: 1,024 counted lines, 1,025 labels, and any count of text lines.
+#[test]
+fn published_limits() {
+    each(|on| {
+        let nops = ";\nnop\n".repeat(1_024);
+        assert_eq!(taken_in(on, nops.as_bytes()), Ok("u,nop,,,,\n".repeat(1_024)));
+        let taken = |more: &str| taken_in(on, (nops.clone() + more).as_bytes());
+        assert_eq!(taken(";\na:\n"), Ok("u,nop,,,,\n".repeat(1_024)));
+        assert_eq!(taken(";\nnop\nnopp\n"), Err(refused(25, 2_049)));
+        assert_eq!(taken("a: jmp b\n"), Err(refused(24, 2_048)));
+        assert_eq!(taken("jmp b\n"), Err(refused(24, 2_048)));
+        // A label behind the last counted line that may be counts too.
+        assert_eq!(taken_in(on, format!("jmp a\n{nops}a:\n").as_bytes()), Err(refused(25, 2_048)));
+
+        let labels: String = (0..1_025).map(|at| format!("a{at}:\n")).collect();
+        let taken = |more: &str| taken_in(on, (labels.clone() + more).as_bytes());
+        assert_eq!(taken("jmp a1024\n"), Ok("u,jmp,,,,0\n".to_string()));
+        assert_eq!(taken("b:\n"), Err(refused(24, 1_025)));
+        assert_eq!(taken("jmp b\nb:\n"), Err(refused(24, 1_025)));
+        // Labels that do not count do not fill it up.
+        let wrong = format!("jmp b\na1:\n{}b:\n", labels.replace("a1024:", "a1_024:"));
+        assert_eq!(taken_in(on, wrong.as_bytes()), Err(refused(24, 3)));
+
+        for (last, number) in [("jmp a\n", 24), ("nopp\n", 25)] {
+            for count in [65_535, 65_536, 70_000] {
+                let text = "\n".repeat(count) + last;
+                assert_eq!(taken_in(on, text.as_bytes()), Err(refused(number, count as u32)));
+            }
+        }
+        assert_eq!(taken_in(on, ("\n".repeat(70_000) + "nop\n").as_bytes()), Ok("u,nop,,,,\n".to_string()));
+    });
+}
+
+/// Request 08: what is sent out, and comes home with the same bytes.
+#[test]
+fn published_by_us() {
+    each(|on| {
+        let nops = "u,nop,,,,\n".repeat(5);
+        let pairs = [
+            ("".to_string(), "".to_string()),
+            (nops.clone() + "u,jmp,,,,5\n", "nop\n".repeat(5) + "L5:\njmp L5\n"),
+            ("u,jmp,,,,5\n".to_string() + &nops[10..], "jmp L5\n".to_string() + &"nop\n".repeat(4) + "L5:\n"),
+            ("u,jmp,,,,0\nu,beq,,r4,#9,0\n".into(), "L0:\njmp L0\nbeq r4 #9 L0\n".into()),
+            ("u,bne,,!r4+0,@127,1\n".into(), "bne !r4,0 @127 L1\nL1:\n".into()),
+            ("s,xor,%r4+0,%r15+127,!r9+127,\n".into(), "xor !r4,128 !r15,255 !r9,127\n".into()),
+            ("s,mov,r16,#1,,\nu,not,@0,#255,,\n".into(), "mov r16 #1\nnot @0 #255\n".into()),
+        ];
+        for (ours, sent) in pairs {
+            assert_eq!(sent_out(on, ours.as_bytes()), Ok(sent.clone()), "{ours:?}");
+            assert_eq!(taken_in(on, sent.as_bytes()), Ok(ours));
+        }
+        // 1,024 jumps, each to a line of its own, the end among them; and the example cipher.
+        let jumps: String = (0..1_024).map(|at| format!("u,jmp,,,,{}\n", 1_024 - at)).collect();
+        let cipher = String::from_utf8(simon::TEXT.to_vec()).unwrap();
+        for (ours, labels) in [(jumps, 1_024), (cipher, 4)] {
+            let sent = sent_out(on, ours.as_bytes()).unwrap();
+            assert_eq!(sent.lines().filter(|line| line.ends_with(':')).count(), labels);
+            assert_eq!(taken_in(on, sent.as_bytes()), Ok(ours));
+        }
+    });
+}
+
+/// Request 08: going out, refusals 1 to 16 come first.
+#[test]
+fn published_by_us_refused() {
+    each(|on| {
+        let nops = |count: usize, more: &str| "u,nop,,,,\n".repeat(count) + more;
+        let texts = [
+            (nops(2, "u,nop,,,,"), refused(1, 2)),
+            (nops(1, "\n"), refused(2, 1)),
+            (nops(0, "x,nop,,,,\n"), refused(3, 0)),
+            (nops(0, "u,or,,,,\n"), refused(4, 0)),
+            (nops(0, "u,nop,r4,,,\n"), refused(5, 0)),
+            (nops(0, "u,mov,r4,!r4,3,\n"), refused(5, 0)),
+            (nops(0, "u,mov,r4,!r4,,\n"), refused(6, 0)),
+            // All of reading before the mark check: behind line 1,024 too, where there is room for 32,768 lines.
+            (nops(1_024, "nop\n"), refused(2, 1_024)),
+            (nops(32_767, "s,nop\n"), refused(2, 32_767)),
+            (nops(32_768, "x"), refused(7, 32_768)),
+            (nops(32_768, ""), refused(9, 0)),
+            (nops(1_025, ""), refused(9, 0)),
+            ("u,mov,r3,#0,,\nx\n".to_string(), refused(2, 1)),
+            (nops(1, "u,mov,r3,#0,,\n"), refused(10, 1)),
+            (nops(0, "s,mov,r4,#0,,\n"), refused(11, 0)),
+            (nops(0, "u,mov,r4,r16,,\n"), refused(12, 0)),
+            (nops(0, "s,add,r16,r16,r4,\n"), refused(14, 0)),
+            (nops(0, "s,mov,r16,#2,,\n"), refused(15, 0)),
+            (nops(0, "u,jmp,,,,2\n"), refused(16, 0)),
+        ];
+        for (text, answer) in texts {
+            assert_eq!(on.send_out(text.as_bytes(), &mut []), answer);
+            assert_eq!(sent_out(on, text.as_bytes()), Err(answer));
+        }
+        let mut out = [7; 13];
+        assert_eq!(on.send_out(b"u,jmp,,,,1\n", &mut out[..10]), refused(17, 0));
+        assert_eq!(out, [7; 13]);
+        assert_eq!(on.send_out(b"u,jmp,,,,1\n", &mut out[..12]), Counted(11));
+        assert_eq!(&out, b"jmp L1\nL1:\n\x07\x07");
     });
 }

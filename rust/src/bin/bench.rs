@@ -2,7 +2,7 @@
 //! the same inputs, and prints the ratios of the medians.
 
 use dualrail::paper::walk::SET;
-use dualrail::paper::{kind_of_place, Kind, MOST_BYTES, MOST_LINES, ROW, SIX, STATE};
+use dualrail::paper::{kind_of_place, Kind, Paper, MOST_BYTES, MOST_LINES, ROW, SIX, STATE};
 use dualrail::plain::Plain;
 use dualrail::simon;
 use dualrail::{Answer, Dualrail, Layout, Library};
@@ -10,6 +10,8 @@ use std::hint::black_box;
 use std::time::Instant;
 
 const REPEATS: usize = 301;
+/// Of what takes milliseconds.
+const FEW_REPEATS: usize = 31;
 
 fn median(mut times: Vec<f64>) -> f64 {
     times.sort_by(f64::total_cmp);
@@ -47,9 +49,14 @@ fn judged(ratio: f64, goal: f64) -> String {
 /// Times a job on both sides by turns; prints the medians in microseconds, their
 /// ratio and the goal for it, and gives the library's median.
 fn measure(name: &str, goal: f64, job: Job) -> f64 {
+    measure_times(REPEATS, name, goal, job)
+}
+
+/// The same with so many repeats.
+fn measure_times(repeats: usize, name: &str, goal: f64, job: Job) -> f64 {
     let (mut ours, mut theirs) = (Memory::new(), Memory::new());
     let (mut library, mut plain) = (vec![], vec![]);
-    for turn in 0..REPEATS + 10 {
+    for turn in 0..repeats + 10 {
         // Who goes first changes from turn to turn.
         let (mine, other);
         if turn % 2 == 0 {
@@ -289,6 +296,30 @@ fn texts() -> [f64; 2] {
     [read_long / (4.0 * read_short), write_long / (4.0 * write_short)]
 }
 
+/// Request 08: published text taken in, and our line form sent out.
+fn published() {
+    // Names of 16 letters and digits, alike in front.
+    let name = |at: usize| format!("aLabelFor{:07}", at % 1_024);
+    let jumps: String = (0..1_024).map(|at| format!("{}:\n jmp {}\n", name(at), name(7 * at + 5))).collect();
+    let comments = "; no line\n".repeat(1_000_000) + "nop\n";
+    let mut cipher = vec![0; 1 << 16];
+    let Answer::Counted(count) = Paper.send_out(simon::TEXT, &mut cipher) else { panic!("not sent out") };
+    cipher.truncate(count as usize);
+    let take_in = |repeats: usize, name: &str, goal: f64, text: &[u8]| {
+        measure_times(repeats, name, goal, &|on, memory| on.take_in(text, &mut memory.bytes));
+    };
+    take_in(REPEATS, "take in: 1,024 jumps to 1,024 labels", 1.5, jumps.as_bytes());
+    take_in(REPEATS, "take in: the example cipher", 1.2, &cipher);
+    take_in(FEW_REPEATS, "take in: a million comment lines", 1.2, comments.as_bytes());
+
+    let jumps: String = (0..1_024).map(|at| format!("u,jmp,,,,{}\n", (7 * at + 5) % 1_024)).collect();
+    let send_out = |name: &str, text: &[u8]| {
+        measure(name, 1.2, &|on, memory| on.send_out(text, &mut memory.bytes));
+    };
+    send_out("send out: 1,024 jumps to 1,024 lines", jumps.as_bytes());
+    send_out("send out: the example cipher", simon::TEXT);
+}
+
 fn main() {
     println!(
         "Medians of {REPEATS} repeats in microseconds; both sides in one process, by turns, on the same"
@@ -308,6 +339,7 @@ fn main() {
     images();
     moves();
     let [read, write] = texts();
+    published();
 
     println!("\nThe worst step of a walk found: {:.2} ms.", step / 1000.0);
     println!("\nThe library alone, ratios of its medians:");

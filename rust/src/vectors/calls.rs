@@ -33,6 +33,7 @@ pub fn call(tested: &Tested, case: &Case) -> Result<Called, String> {
         "move" => (&["old", "new", "state", "room", "bytes"], image),
         "run" => (&["program", "stored", "state", "start", "budget", "room", "row", "changed"], run),
         "walk" => (&["program", "stored", "values", "sets", "raw", "rest", "length", "budget"], walk),
+        "take-in" | "send-out" => (&["text", "room", "out"], convert),
         "print-expansion" | "print-trace" => (&["text", "out"], print),
         other => return Err(format!("the call {other:?} is unknown")),
     };
@@ -242,6 +243,17 @@ fn walk(tested: &Tested, case: &Case) -> Result<Called, String> {
         Answer::Spent { .. } => Called { answer: "spent".to_string(), ..called },
         _ => called,
     })
+}
+
+fn convert(tested: &Tested, case: &Case) -> Result<Called, String> {
+    let text = input_bytes(&case.text("text")?.ok_or("`text` is missing")?);
+    let mut out = byte_store(case)?;
+    out.expect(&case.text("out")?.unwrap_or_default())?;
+    let answer = match case.one("call")? {
+        "take-in" => tested.library.take_in(text.part(), out.part_mut()),
+        _ => tested.library.send_out(text.part(), out.part_mut()),
+    };
+    called(case, answer, text.fault() + &out.fault())
 }
 
 /// The sets as they are lent: one value for each place, then other values for some, then

@@ -47,6 +47,11 @@ impl Case {
         self.lines.iter().filter(|(name, _)| name == key).map(|(_, value)| value.as_str()).collect()
     }
 
+    /// Whether a key stands there.
+    pub fn has(&self, key: &str) -> bool {
+        !self.all(key).is_empty()
+    }
+
     /// The value of a key that may be absent and stands once at most.
     pub fn optional(&self, key: &str) -> Result<Option<&str>, String> {
         match self.all(key)[..] {
