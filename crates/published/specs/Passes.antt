@@ -2,9 +2,9 @@
 use mathlib.Core.Path.{_≡_}
 use mathlib.Core.Bool.{Bool, true, false, cond, not, _&&_, _||_}
 use mathlib.Core.List.{List, [], _∷_, flatMap}
-use Prim.Native.Nat.{ℕ, suc, _+_, _*_, _%_}
+use Prim.Native.Nat.{ℕ, suc, _+_, _*_, _%_, _≤_}
 use lib.Dec.{ltb, leb, eqb}
-use lib.ListN.{length, getD, set}
+use lib.ListN.{length, getD, set, take, drop}
 use lib.Seq.{sets}
 use Rattle.model.specs.Limits.{lineWidth, maxAccepted}
 use Rattle.model.specs.Answers.{Report, counted, refused}
@@ -15,7 +15,8 @@ use Rattle.published.specs.declared.instructions.Instruction.{Instructio
 use Rattle.published.specs.declared.instructions.Read.{Read}
 use Rattle.published.specs.declared.instructions.Read.the-variants.{Line, Refused as Wrong}
 use Rattle.published.specs.declared.taking.Tally.{Tally}
-use Rattle.published.specs.Published.{TextLine, Seen, noneSeen, labelsAfter, after, seenFrom, labelWrong, parsedLine, textLines, takeInCheck}
+use Rattle.published.specs.Published.{words, TextLine, Seen, noneSeen, labelsAfter, after, seenFrom, labelWrong, parsedLine, textLines, takeInCheck}
+use Rattle.published.specs.Reading.{trimmed, labelSize}
 use Rattle.published.specs.Table.{entries, Linked}
 
 -- ---- what the code's answers mean
@@ -53,6 +54,12 @@ pub record Named (text old heads table : List ℕ) (m r w : ℕ) (parts : List (
   pub linked : Linked text heads table r
   pub labels : entries text table r ≡ labelsAfter (entries text old m) parts n
   pub wrong : labelWrong (entries text old m) parts ≡ ltb 0 w && eqb r m
+
+-- the same of a line whose parts begin at a place of the text, however far they go
+abbrev pub NamedAt : List ℕ → List ℕ → List ℕ → List ℕ → ℕ → ℕ → ℕ → ℕ → ℕ → Type 0
+NamedAt text old heads table start m r w n =
+    (size : ℕ) → w ≡ labelSize (take size (drop start text)) → w ≤ length (take size (drop start text)) → trimmed (take size (drop start text)) ≡ take size (drop start text)
+    → Named text old heads table m r w (words (take size (drop start text))) n
 
 -- the labels of the whole text, how many lines it counts, and how many stand before the first wrong label
 pub record Collected (text heads table : List ℕ) (r : Tally) : Type 0 where

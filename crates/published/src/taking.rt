@@ -3,13 +3,12 @@ ghost use mathlib.Core.Path.{_≡_};
 ghost use mathlib.Core.Bool.{cond, not, _&&_};
 ghost use Prim.Native.Nat.{ℕ, _+_, _*_, _%_, _≤_, _<_};
 ghost use lib.Dec.{ltb, eqb};
-ghost use lib.ListN.{length, take, drop};
+ghost use lib.ListN.{length};
 ghost use Rattle.model.specs.Limits.{lineWidth, maxAccepted};
 ghost use Rattle.model.specs.Stored.{fault};
-ghost use Rattle.published.specs.Published.{words, bit};
-ghost use Rattle.published.specs.Reading.{trimmed, labelSize};
+ghost use Rattle.published.specs.Published.{bit};
 ghost use Rattle.published.specs.Table.{Linked};
-ghost use Rattle.published.specs.Passes.{targetNumber, meaning, Named, Collected, faultBy, keptOf, Kept, Converts};
+ghost use Rattle.published.specs.Passes.{targetNumber, meaning, NamedAt, Collected, faultBy, keptOf, Kept, Converts};
 use crate::Converted;
 use crate::instructions::Read;
 use crate::instructions::parse;
@@ -39,7 +38,7 @@ fn named(
     n: usize,
 ) -> usize
     requires { ⌜ Linked (now text) (now heads) (now table) m ⌝ }
-    ensures { λ r. ⌜ ((size : ℕ) → w ≡ labelSize (take size (drop start (now (text .entry)))) → w ≤ length (take size (drop start (now (text .entry)))) → trimmed (take size (drop start (now (text .entry)))) ≡ take size (drop start (now (text .entry))) → Named (now (text .entry)) (now (table .entry)) (now (heads .exit)) (now (table .exit)) m r w (words (take size (drop start (now (text .entry))))) n) ⌝ }
+    ensures { λ r. ⌜ NamedAt (now (text .entry)) (now (table .entry)) (now (heads .exit)) (now (table .exit)) start m r w n ⌝ }
 {
     if w == 0 {
         return m;
