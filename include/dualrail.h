@@ -5,17 +5,18 @@
  * lays down the numbers of a stored line, docs/LANGUAGE.md lists the refusals.
  *
  * Room that is always enough: 18 lines of expansion for each line, 34 bytes of text for each line, 61 bytes of published text for each line
- * and 8 more, 9 numbers of trace for each step of the budget. A state has 544 bytes. Sets of values have 17 bytes for each place, in the order of the state: a count, 1 to 16, the values,
- * the rest ignored.
+ * and 8 more, 9 numbers of trace for each step of the budget. A state has 544 bytes. Sets of values have 17 bytes for each place, in the
+ * order of the state: a count, 1 to 16, the values, the rest ignored.
  *
  * A layout says which two bits a code has. It is two numbers: a position of 0, 1 or 2, then a spacing, 0 for neighbouring bits or 1 for bits
  * with one between. An expansion runs on images of its own layout; nothing in the 544 bytes names it but the codes. Other numbers are
  * refused with 23 at line 0, before all else.
  *
  * An answer is one number. Of all functions but the last two: number * 2^32 + value, where number 0 is success and value its count, and
- * any other number is a refusal and value its line; a line beyond 2^32 - 1, which a published text may have, is given as 2^32 - 1. Of dualrail_run and dualrail_judge: ending * 2^32 + counter * 2^16 + steps, ending 0
- * halted or balanced, 1 spent and 2 a leak, with its line for the counter, or, refused, number * 2^48 + line. A refusal leaves all lent
- * memory as it was, except that a refused reading leaves the lines before the bad one in the store.
+ * any other number is a refusal and value its line; a line beyond 2^32 - 1, which a published text may have, is given as 2^32 - 1. Of
+ * dualrail_run and dualrail_judge: ending * 2^32 + counter * 2^16 + steps, ending 0 halted or balanced, 1 spent and 2 a leak, with its line
+ * for the counter, or, refused, number * 2^48 + line. A refusal leaves all lent memory as it was, except that a refused reading leaves the
+ * lines before the bad one in the store.
  */
 #ifndef DUALRAIL_H
 #define DUALRAIL_H

@@ -9,7 +9,7 @@ use Rattle.model.specs.declared.Answer.the-variants.{Refused}
 use Rattle.model.specs.Answers.{Report, report, Outcome, outcome}
 use Rattle.published.specs.declared.Converted.{Converted}
 use Rattle.published.specs.declared.Converted.the-variants.{Refused as AtLine}
-use Rattle.published.specs.Passes.{conversion}
+use Rattle.published.specs.Published.{conversion}
 use Rattle.dualrail.specs.Packing.{placed, packed}
 
 pub told : (pack : Report → ℕ) (a : Report) (ss : List (List ℕ)) (o : Outcome) (n : ℕ) → n ≡ pack a → outcome a ss ≡ o → (n ≡ pack (o .answer)) × (ss ≡ o .stores)

@@ -15,10 +15,9 @@ use Rattle.model.proofs.CheckAnswers.{CountOrRefusal, counts, refuses}
 use Rattle.printing.proofs.SizeLaws.{spelled-most}
 use Rattle.lines.proofs.LeftLaws.{all-fits}
 use Rattle.lines.proofs.LineTexts.{refusal-most}
-use Rattle.published.specs.Published.{takeInCheck, takenIn, takeInOutcome, sendOutCheck, sentOut, sendOutOutcome, published}
+use Rattle.published.specs.Published.{takeInCheck, takenIn, takeInOutcome, sendOutCheck, sentOut, sendOutOutcome, published, conversion}
 use Rattle.published.specs.declared.Converted.{Converted}
 use Rattle.published.specs.declared.Converted.the-variants.{Count, Refused as AtLine}
-use Rattle.published.specs.Passes.{conversion}
 use Rattle.published.proofs.SendLaws.{text-long}
 use Rattle.published.proofs.RoundTrip.{sent, sent-out, taken-accepted}
 use Rattle.published.proofs.HomeCalls.{send-answers, take-answers}

@@ -2,10 +2,10 @@
 // lent store.
 ghost use mathlib.Core.Path.{_≡_};
 ghost use mathlib.Core.List.{[], _∷_};
-ghost use Prim.Native.Nat.{ℕ, _≤_, _<_};
-ghost use Rattle.model.specs.Answers.{Report, report, counted, refused, outcome};
+ghost use Prim.Native.Nat.{_<_};
+ghost use Rattle.model.specs.Answers.{report, outcome};
 ghost use Rattle.model.specs.Text.{fitted};
-ghost use Rattle.published.specs.Passes.{conversion};
+ghost use Rattle.published.specs.Published.{conversion};
 ghost use Rattle.filters.specs.Filters.{takeinPrints, sendoutPrints, Narrow, toldText};
 use lines::write_refusal;
 use model::Answer;
@@ -18,7 +18,7 @@ pub const INPUT_SIZE: usize = 65536;
 // The most bytes that the programs print.
 pub const TAKEN_BYTES: usize = printing::LONGEST_LINE * MAX_ACCEPTED;
 
-pub const SENT_BYTES: usize = 61 * MAX_ACCEPTED + 8;
+pub const SENT_BYTES: usize = published::LONGEST_LINE * MAX_ACCEPTED + published::LONGEST_LABEL;
 
 // The text of a conversion that was written to a store, or of its refusal. Where there was no room it is refused with 17, and nothing is written.
 fn tell(answer: Converted, out: &mut [u8]) -> Answer

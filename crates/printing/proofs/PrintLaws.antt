@@ -23,10 +23,10 @@ use Rattle.printing.proofs.SizeLaws.{spelled-most}
 abbrev pub textFrom : List ℕ → ℕ → ℕ → List ℕ
 textFrom p i m = flatMap spellLine (linesFrom p i m)
 
-minus-0 : (n : ℕ) → n - 0 ≡ n
+pub minus-0 : (n : ℕ) → n - 0 ≡ n
 minus-0 n = omega arith
 
-one-less : (n i : ℕ) → i < n → n - i ≡ suc (n - (i + 1))
+pub one-less : (n i : ℕ) → i < n → n - i ≡ suc (n - (i + 1))
 one-less n i h = omega arith
 
 text-next : (p : List ℕ) (n i : ℕ) → i < n → textFrom p i (n - i) ≡ spellLine (lineAt p i) ++ textFrom p (i + 1) (n - (i + 1))

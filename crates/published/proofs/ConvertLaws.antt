@@ -1,5 +1,5 @@
 -- The second pass: what is left to check always gives the answer, and what is left to store the stored lines. Assumes nothing.
-use Prim.Native.Nat.{ℕ, suc, _+_, _-_, _*_, _%_, _≤_, _<_}
+use Prim.Native.Nat.{ℕ, suc, _+_, _*_, _%_, _≤_, _<_}
 use mathlib.Core.Bool.{Bool, true, false, cond, _&&_, _||_}
 use mathlib.Core.Path.{_≡_, refl, sym, ap, ap₂, subst, _∙_}
 use mathlib.Core.List.{List, [], _∷_, _++_}
@@ -22,10 +22,10 @@ use Rattle.published.specs.declared.taking.Tally.{Tally}
 use Rattle.published.specs.declared.instructions.Instruction.{Instruction}
 use Rattle.published.specs.declared.instructions.Read.{Read}
 use Rattle.published.specs.declared.instructions.Read.the-variants.{Line, Refused}
-use Rattle.published.specs.Published.{words, TextLine, textLines, bit, instruction, isCounted, Label, labelWrong, Seen, noneSeen, after, seenFrom, instructionParsed, parsedLine, holds24, holds25, lineFault, firstFault, takeInCheck}
+use Rattle.published.specs.Published.{words, TextLine, textLines, bit, instruction, isCounted, Label, labelWrong, Seen, noneSeen, after, seenFrom, instructionParsed, parsedLine, holds24, holds25, lineFault, firstFault, takeInCheck, conversion}
 use Rattle.published.specs.Reading.{trimmed, codeOf, bodyOf}
 use Rattle.published.specs.Table.{entries, Low}
-use Rattle.published.specs.Passes.{conversion, targetNumber, meaning, cleanFrom, faultBy, keptOf, keptLines, Collected, Kept, Converts}
+use Rattle.published.specs.Passes.{targetNumber, meaning, cleanFrom, faultBy, keptOf, keptLines, Collected, Kept, Converts}
 use Rattle.published.proofs.SeenLaws.{fault-cons, fault-nil, kept-cons, kept-nil, clean-cons, low-seen, few-after}
 use Rattle.published.proofs.TakenLines.{LineRead, line, no-line, line-read, six-numbers}
 use Rattle.published.proofs.TextLaws.{frontOf, front-at, instruction-is, code-trimmed, counted-is, lines-end, next-near}

@@ -1,5 +1,6 @@
 pub mod PartLaws
 pub mod OperandSpelling
+pub mod OperandReading
 pub mod NameLaws
 pub mod LineLaws
 pub mod SeenLaws
@@ -10,7 +11,6 @@ pub mod ReadingLaws
 pub mod InstructionLaws
 pub mod WordLaws
 pub mod PlaceLaws
-pub mod OperandReading
 pub mod TableLaws
 pub mod TextLaws
 pub mod CollectLaws

@@ -34,7 +34,8 @@ use Rattle.published.specs.Published.{spellPublished, lineName, spellTar
 use Rattle.published.specs.Published.{spaced, instructionText}
 use Rattle.published.specs.Published.{bit, Label, find, filledBy, orMissing, markFor, operandsParsed, partsParsed, instructionParsed}
 use Rattle.published.proofs.PartLaws.{Plain, Apart, present, spaced-apart, spaced-words, spaced-newlines, spaced-comments, word-then}
-use Rattle.published.proofs.OperandSpelling.{Spelled, published-there, published-plain, published-filled}
+use Rattle.published.proofs.OperandSpelling.{Spelled, published-plain, published-filled}
+use Rattle.published.proofs.OperandReading.{published-there}
 use Rattle.published.proofs.NameLaws.{line-alphanumeric, line-plain}
 
 -- ---- the parts of a line going out

@@ -22,6 +22,7 @@ use Rattle.model.proofs.StoredLaws.{never-counted, codes-length, whole-lines, w
 use Rattle.model.proofs.CheckAnswers.{CountOrRefusal, counts, refuses, reading-answers, NoCount, Refusal, no-count-refuses, refusal-leaves}
 use Rattle.model.proofs.RoundTrip.{reading-zero, reading-suc, read-outcome, reads-back, reads-lines, written-read}
 use Rattle.model.proofs.TestLaws.{below}
+use Rattle.printing.proofs.PrintLaws.{one-less}
 use Rattle.published.specs.Published.{readText, sendOutCheck, sentOut, sendOutOutcome}
 use Rattle.published.specs.Printing.{Unread, publishOutcome}
 
@@ -36,9 +37,6 @@ unfolding readText
 through-first text = record { few = omega arith; answer = refl }
 
 module _ (text rest : List ℕ) (n : ℕ) (R : Through text rest n) where
-  one-less : n < maxLines → maxLines - n ≡ suc (maxLines - (n + 1))
-  one-less h = omega arith
-
   pub through-done : length rest ≡ 0 → counted n ≡ readText text .answer
   through-done z = sym (by (maxLines - n)) ∙ R .answer
     where
@@ -56,7 +54,7 @@ module _ (text rest : List ℕ) (n : ℕ) (R : Through text rest n) where
         sym (ap (λ (m : ℕ). reading m n maxLines rest .answer) z ∙ rw (reading-zero n maxLines rest, filled)) ∙ R .answer
 
     turn : n < maxLines → reading (maxLines - n) n maxLines rest ≡ thenReads (frontLine rest) n (reading (maxLines - (n + 1)) (n + 1) maxLines (past newline rest))
-    turn h = rw (one-less h, reading-suc (maxLines - (n + 1)) n maxLines rest, filled, lt-leb maxLines n h)
+    turn h = rw (one-less maxLines n h, reading-suc (maxLines - (n + 1)) n maxLines rest, filled, lt-leb maxLines n h)
 
     pub through-stop : n < maxLines → (k : ℕ) → frontLine rest ≡ wrong k → refused k n ≡ readText text .answer
     through-stop h k e =

@@ -7,13 +7,13 @@ use mathlib.Core.Logic.{_↔_}
 use mathlib.Core.Option.{some}
 use native.Mathlib.Omega.{arith}
 use lib.ListN.{length, getD, length-append}
-use lib.Dec.{T, ltb, eqb, leb→le, ltb→lt, le→leb, lt→ltb}
+use lib.Dec.{T, ltb, eqb, leb→le, ltb→lt, lt→ltb}
 use borrow.Author.Tests.{eq-eqb, ne-eqb, lt-ltb, le-ltb, eqb-true, eqb-false}
 use Rattle.model.specs.declared.Operand.{Operand}
 use Rattle.model.specs.declared.Operand.the-variants.{Empty, Literal, Register, Cell, PublicCell, SensitiveCell, TableCell}
 use Rattle.model.specs.Lines.{operandRight}
 use Rattle.model.specs.Stored.{tables, publics, sensitives, operandCode, operandOf}
-use Rattle.model.specs.Text.{comma, decimal, countOf, upTo, past}
+use Rattle.model.specs.Text.{comma, decimal, countOf, upTo, past, spelledFrom}
 use Rattle.model.proofs.TestLaws.{below, and-both, both-and, holds, is-true}
 use Rattle.model.proofs.Forms.{operand-number}
 use Rattle.model.proofs.StoredLaws.{operand-back, operand-there}
@@ -22,11 +22,12 @@ use Rattle.model.proofs.CutLaws.{count-append, count-other, count-it, digits-cl
 use Rattle.model.proofs.SpellingLaws.{spelled-is}
 use Rattle.text.specs.declared.Field.{Field}
 use Rattle.text.specs.declared.Field.the-variants.{Is, Wrong}
-use Rattle.text.specs.Fields.{found, readNumber, shift}
+use Rattle.text.specs.Fields.{found, readNumber, shift, readDirect}
 use Rattle.text.proofs.DigitLaws.{never, number-below, number-decimal, decimal-number}
+use Rattle.text.proofs.OperandLaws.{filled, cond-is, found-is, direct-below, direct-spelled}
 use Rattle.published.specs.Published.{based, spellPublished, withOffset, publishedNumber}
-use Rattle.published.specs.Reading.{pointedAt, pointed, readBased, readForm, readPart}
-use Rattle.published.proofs.OperandSpelling.{Spelled, number-spelled, spelled-number, based-commas}
+use Rattle.published.specs.Reading.{pointedAt, pointed, readBased, readPart}
+use Rattle.published.proofs.OperandSpelling.{Spelled, number-spelled, spelled-number, based-commas, kept-offset, spelled-alike}
 
 -- a part without its offset is read by another rule
 abbrev bare : List ℕ → Bool
@@ -37,15 +38,12 @@ readExact s = cond (bare s) Wrong (readPart s)
 
 -- ---- spelled, then read
 
-filled : (c : ℕ) (x : List ℕ) → eqb (length (c ∷ x)) 0 ≡ false
-filled c x = ne-eqb (length (c ∷ x)) 0 (λ e. omega arith)
-
-not-bare : (c : ℕ) (s : List ℕ) → eqb c 33 ≡ false → readExact (c ∷ s) ≡ readForm c s
+not-bare : (c : ℕ) (s : List ℕ) → eqb c 33 ≡ false → readExact (c ∷ s) ≡ readDirect c s
 unfolding readExact readPart
 not-bare c s h = rw (h, filled c s)
 
 written : (s : List ℕ) → 0 < countOf comma (33 ∷ s) → readExact (33 ∷ s) ≡ readBased s
-unfolding readExact readPart readForm
+unfolding readExact readPart
 written s h = rw (ne-eqb (countOf comma (33 ∷ s)) 0 (λ e. omega arith), filled 33 s)
 
 -- a base before a comma, and an offset after it
@@ -66,7 +64,7 @@ unfolding readExact readPart
 none-read = refl
 
 spelled-read : (must : Bool) (op : Operand) → T (operandRight must op) → Spelled op → readExact (spellPublished op) ≡ Is (operandCode op)
-unfolding operandRight spellPublished readForm shift
+unfolding operandRight spellPublished readDirect shift
 spelled-read must Empty h c = none-read
 spelled-read must (Literal n) h c =
     let l : n ≤ 255 = leb→le n 255 (and-both must _ h .1) in
@@ -101,31 +99,6 @@ record Shown (s : List ℕ) (k : ℕ) : Type 0 where
   number : k ≡ operandCode op
   text : spellPublished op ≡ s
 
-data Shifted (m : ℕ) (x : Field) (k : ℕ) : Type 0 where
-  by-shift : (j : ℕ) → x ≡ Is j → k ≡ m + j → Shifted m x k
-
-shift-back : (m : ℕ) (x : Field) (k : ℕ) → shift m x ≡ Is k → Shifted m x k
-unfolding shift
-shift-back m (Is j) k e = by-shift j refl cc
-shift-back m Wrong k e = absurd (never e)
-
-module _ (t : List ℕ) (k : ℕ) where
-  literal-back : Shifted 1 (readNumber 256 t) k → Shown (35 ∷ t) k
-  unfolding operandRight spellPublished
-  literal-back (by-shift j p e) =
-      let l : j < 256 = number-below 256 t j (omega arith) p in
-      record { op = Literal j; right = le→leb j 255 (omega arith); counterpart = tt; number = e; text = ap (λ (l : List ℕ). 35 ∷ l) (decimal-number 256 t j (omega arith) (omega arith) p) }
-
-  register-back : Shifted 257 (readNumber 32 t) k → Shown (114 ∷ t) k
-  unfolding operandRight spellPublished
-  register-back (by-shift j p e) =
-      record { op = Register j; right = lt→ltb j 32 (number-below 32 t j (omega arith) p); counterpart = tt; number = e; text = ap (λ (l : List ℕ). 114 ∷ l) (decimal-number 32 t j (omega arith) (omega arith) p) }
-
-  cell-back : Shifted 289 (readNumber 512 t) k → Shown (64 ∷ t) k
-  unfolding operandRight spellPublished
-  cell-back (by-shift j p e) =
-      record { op = Cell j; right = lt→ltb j 512 (number-below 512 t j (omega arith) p); counterpart = tt; number = e; text = ap (λ (l : List ℕ). 64 ∷ l) (decimal-number 512 t j (omega arith) (omega arith) p) }
-
 data Pointed (x y : Field) (k : ℕ) : Type 0 where
   by-point : (b o : ℕ) → x ≡ Is b → y ≡ Is o → pointedAt b o ≡ Is k → Pointed x y k
 
@@ -146,10 +119,6 @@ cell-of b o k hb ho e =
     (λ l. let q : sensitives + (128 * b + (o - 128)) ≡ k = is-same (rw (le-ltb o 128 l) at e) in
     let z : 128 + (o - 128) ≡ o = omega arith in
     record { op = SensitiveCell b (o - 128); right = both-and (ltb b 32) (ltb (o - 128) 128) (lt→ltb b 32 hb) (lt→ltb (o - 128) 128 (omega arith)); counterpart = tt; number = omega arith; text = ap (based b) z })
-
-cond-is : (t : Bool) (x : Field) (k : ℕ) → cond t x Wrong ≡ Is k → (t ≡ true) × (x ≡ Is k)
-cond-is true x k e = (refl, e)
-cond-is false x k e = absurd (never e)
 
 cond-not : (t : Bool) (x : Field) (k : ℕ) → cond t Wrong x ≡ Is k → (t ≡ false) × (x ≡ Is k)
 cond-not true x k e = absurd (never e)
@@ -174,55 +143,55 @@ based-back (c ∷ v) k h e =
     let longer : length (upTo comma v) < length v = omega (arith, ap length (rejoin comma v hc), length-append (upTo comma v) (comma ∷ past comma v)) in
     rw q (split-back v k hc (point-back (readNumber 32 (upTo comma v)) (readNumber 256 (past comma v)) k (rw (ne-eqb (length (upTo comma v)) (length v) (λ e. omega arith)) at (z .1))))
 
--- one of four tests
-module _ (P : Type 0) (k : ℕ) (u v w x : Field) where
-  four : (a b c d : Bool) → cond a u (cond b v (cond c w (cond d x Wrong))) ≡ Is k
-      → (a ≡ true → u ≡ Is k → P) → (b ≡ true → v ≡ Is k → P) → (c ≡ true → w ≡ Is k → P) → (d ≡ true → x ≡ Is k → P) → P
-  four true b c d q A B C D = A refl q
-  four false true c d q A B C D = B refl q
-  four false false true d q A B C D = C refl q
-  four false false false true q A B C D = D refl q
-  four false false false false q A B C D = absurd (never q)
+-- what a part that was read says
+abbrev Said : List ℕ → ℕ → Type 0
+Said s k = (k < tables) × (spellPublished (operandOf k) ≡ s)
 
-form-back : (c : ℕ) (t : List ℕ) (k : ℕ) → bare (c ∷ t) ≡ false → readForm c t ≡ Is k → Shown (c ∷ t) k
-unfolding readForm
-form-back c t k h q =
-    four (Shown (c ∷ t) k) k (shift 1 (readNumber 256 t)) (shift 257 (readNumber 32 t)) (shift 289 (readNumber 512 t)) (readBased t) (eqb c 35) (eqb c 114) (eqb c 64) (eqb c 33) q
-    (λ a e. rw (eqb-true c 35 a) (literal-back t k (shift-back _ _ k e)))
-    (λ a e. rw (eqb-true c 114 a) (register-back t k (shift-back _ _ k e)))
-    (λ a e. rw (eqb-true c 64 a) (cell-back t k (shift-back _ _ k e)))
-    (λ a e. let z : c ≡ 33 = eqb-true c 33 a in
-    let g : eqb (countOf comma (33 ∷ t)) 0 ≡ false = rw z at h in
-    let f = eqb-false (countOf comma (33 ∷ t)) 0 g in
-    rw z (based-back t k (omega arith) e))
+shown-said : (s : List ℕ) (k : ℕ) → Shown s k → Said s k
+shown-said s k o = (
+  omega (arith, o .number, spelled-number true (o .op) (o .right) (o .counterpart)),
+  ap (λ (n : ℕ). spellPublished (operandOf n)) (o .number) ∙ ap spellPublished (operand-there true (o .op) (o .right) .same) ∙ o .text,
+)
+
+direct-said : (c : ℕ) (t : List ℕ) (k : ℕ) → readDirect c t ≡ Is k → Said (c ∷ t) k
+direct-said c t k e = let l = direct-below c t k e in (omega arith, sym (spelled-alike k l) ∙ direct-spelled c t k e)
+
+form-back : (c : ℕ) (t : List ℕ) (k : ℕ) → bare (c ∷ t) ≡ false → cond (eqb c 33) (readBased t) (readDirect c t) ≡ Is k → Said (c ∷ t) k
+form-back c t k h = by (eqb c 33) refl
+  where
+    by : (b : Bool) → eqb c 33 ≡ b → cond b (readBased t) (readDirect c t) ≡ Is k → Said (c ∷ t) k
+    by true a e =
+        let z : c ≡ 33 = eqb-true c 33 a in
+        let g : eqb (countOf comma (33 ∷ t)) 0 ≡ false = rw z at h in
+        let f = eqb-false (countOf comma (33 ∷ t)) 0 g in
+        rw z (shown-said (33 ∷ t) k (based-back t k (omega arith) e))
+    by false a e = direct-said c t k e
 
 zero-spelled : spellPublished (operandOf 0) ≡ []
 unfolding spellPublished operandOf
 zero-spelled = refl
 
--- what a part that was read says
-back : (s : List ℕ) (k : ℕ) → readExact s ≡ Is k → (k < tables) × (spellPublished (operandOf k) ≡ s)
+back : (s : List ℕ) (k : ℕ) → readExact s ≡ Is k → Said s k
 unfolding readExact readPart
 back [] k e = let z : k ≡ 0 = sym (is-same e) in (omega arith, ap (λ (n : ℕ). spellPublished (operandOf n)) z ∙ zero-spelled)
-back (c ∷ t) k e =
-    let w = cond-not (bare (c ∷ t)) _ k e in
-    let s = form-back c t k (w .0) (rw (filled c t) at (w .1)) in (
-      omega (arith, s .number, spelled-number true (s .op) (s .right) (s .counterpart)),
-      ap (λ (n : ℕ). spellPublished (operandOf n)) (s .number) ∙ ap spellPublished (operand-there true (s .op) (s .right) .same) ∙ s .text,
-    )
+back (c ∷ t) k e = let w = cond-not (bare (c ∷ t)) _ k e in form-back c t k (w .0) (rw (filled c t) at (w .1))
 
 -- ---- exactly the spelling
 
-found-is : (x : Field) (k : ℕ) → found x ≡ some k → x ≡ Is k
-found-is (Is j) k e = let q : j ≡ k = cc in ap Is q
-found-is Wrong k e = let z : _≡_ {A = ℕ} 0 1 = cc in absurd (omega arith)
-
-exactly : (s : List ℕ) (k : ℕ) → (found (readExact s) ≡ some k) ↔ ((k < tables) × (spellPublished (operandOf k) ≡ s))
+exactly : (s : List ℕ) (k : ℕ) → (found (readExact s) ≡ some k) ↔ Said s k
 exactly s k = (
   λ e. back s k (found-is (readExact s) k e),
   λ h. let l : k < tables = h .0 in
       ap found (ap readExact (sym (h .1)) ∙ spelled-read (ltb 0 k) (operandOf k) (operand-back k (omega arith)) (number-spelled k l) ∙ ap Is (operand-number k)),
 )
+
+searched : (s : List ℕ) → spelledFrom (λ n. spellPublished (operandOf n)) 0 tables s ≡ found (readExact s)
+searched = spelled-is (λ n. spellPublished (operandOf n)) tables (λ x. found (readExact x)) exactly
+
+-- THE SPELLING OF AN OPERAND IS READ AS ITS NUMBER
+pub published-there : (must : Bool) (op : Operand) → T (operandRight must op) → Spelled op → publishedNumber (spellPublished op) ≡ some (operandCode op)
+unfolding publishedNumber
+published-there must op h c = searched (withOffset (spellPublished op)) ∙ ap (λ (s : List ℕ). found (readExact s)) (kept-offset op) ∙ ap found (spelled-read must op h c)
 
 -- the offset of a part is written where it is missing
 zero-number : readNumber 256 (48 ∷ []) ≡ Is 0
@@ -230,7 +199,7 @@ unfolding readNumber
 zero-number = refl
 
 part-33 : (s : List ℕ) → readPart (33 ∷ s) ≡ readBased s
-unfolding readPart readForm
+unfolding readPart
 part-33 s = rw (filled 33 s)
 
 some-count : (c : ℕ) (s : List ℕ) → countOf comma s ≤ countOf comma (c ∷ s)
@@ -276,7 +245,7 @@ bare-read (c ∷ s) e =
 -- THE READER FINDS THE NUMBER THAT THE DEFINITION FINDS
 pub part-reads : (s : List ℕ) → found (readPart s) ≡ publishedNumber s
 unfolding publishedNumber withOffset
-part-reads s = sym (spelled-is (λ n. spellPublished (operandOf n)) tables (λ x. found (readExact x)) exactly _ ∙ ap found (by (bare s) refl))
+part-reads s = sym (searched _ ∙ ap found (by (bare s) refl))
   where
     by : (t : Bool) → bare s ≡ t → readExact (cond (bare s) (s ++ (comma ∷ 48 ∷ [])) s) ≡ readPart s
     by true e = rw e (bare-read s e)

@@ -1,57 +1,24 @@
--- The published spelling of an operand gives its number back. Assumes nothing.
+-- Which operands have a published spelling, and what it is like. Assumes nothing.
 use Prim.Native.Nat.{ℕ, _+_, _-_, _≤_, _<_}
 use mathlib.Core.Bool.{Bool, true, false, cond, _&&_, false≢true}
-use mathlib.Core.Path.{_≡_, refl, sym, ap, _∙_}
+use mathlib.Core.Path.{_≡_, refl}
 use mathlib.Core.List.{List, [], _∷_, _++_}
-use mathlib.Core.Option.{some}
 use native.Mathlib.Omega.{arith}
 use lib.ListN.{length, getD}
 use lib.Dec.{T, ltb, eqb, leb→le, ltb→lt}
-use borrow.Author.Tests.{ne-eqb, lt-ltb, le-ltb}
+use borrow.Author.Tests.{ne-eqb, lt-ltb}
 use Rattle.model.specs.declared.Operand.{Operand}
 use Rattle.model.specs.declared.Operand.the-variants.{Empty, Literal, Register, Cell, PublicCell, SensitiveCell, TableCell}
 use Rattle.model.specs.Lines.{operandRight}
-use Rattle.model.specs.Stored.{literals, registers, cells, publics, sensitives, tables, operands, operandCode, operandOf}
-use Rattle.model.specs.Text.{comma, decimal, countOf, upTo, past, spelledFrom}
+use Rattle.model.specs.Stored.{literals, registers, cells, publics, sensitives, tables, operandCode, operandOf}
+use Rattle.model.specs.Text.{comma, decimal, countOf, spellOperand}
 use Rattle.model.proofs.TestLaws.{and-both}
-use Rattle.model.proofs.Forms.{operand-number}
-use Rattle.model.proofs.StoredLaws.{operand-back, operand-there}
-use Rattle.model.proofs.DecimalLaws.{Digits, valueFrom, decimal-value, decimal-digits}
-use Rattle.model.proofs.CutLaws.{count-append, count-other, count-it, digits-clean, upTo-clean, past-clean}
-use Rattle.model.proofs.SpellingLaws.{Distinct, spelled-there}
-use Rattle.published.specs.Published.{based, spellPublished, withOffset, publishedNumber}
+use Rattle.model.proofs.DecimalLaws.{Digits, decimal-digits}
+use Rattle.model.proofs.CutLaws.{count-append, count-other, count-it}
+use Rattle.published.specs.Published.{based, spellPublished, withOffset}
 use Rattle.published.proofs.PartLaws.{Plain, plain-append}
 
--- ---- the operand that a spelling is of
-
-unfoldable baseIn : List ℕ → ℕ
-baseIn s = valueFrom 0 (upTo comma (past 114 s))
-
-unfoldable offsetIn : List ℕ → ℕ
-offsetIn s = valueFrom 0 (past comma (past 114 s))
-
-abbrev pointed : ℕ → ℕ → Operand
-pointed r k = cond (ltb k 128) (PublicCell r k) (SensitiveCell r (k - 128))
-
-unfoldable operandIn : List ℕ → Operand
-operandIn [] = Empty
-operandIn (c ∷ s) =
-    cond (eqb c 35) (Literal (valueFrom 0 s))
-    (cond (eqb c 114) (Register (valueFrom 0 s))
-    (cond (eqb c 64) (Cell (valueFrom 0 s))
-    (pointed (baseIn s) (offsetIn s))))
-
-abbrev after-sign : ℕ → ℕ → List ℕ
-after-sign r k = 114 ∷ (decimal r ++ (comma ∷ decimal k))
-
-module _ (r k : ℕ) (hr : r < 32) (hk : k < 256) where
-  base-in : baseIn (after-sign r k) ≡ r
-  unfolding baseIn past
-  base-in = rw (upTo-clean comma (decimal r) (decimal k) (digits-clean comma (decimal r) (omega arith) (decimal-digits r))) (decimal-value r (omega arith))
-
-  offset-in : offsetIn (after-sign r k) ≡ k
-  unfolding offsetIn past
-  offset-in = rw (past-clean comma (decimal r) (decimal k) (digits-clean comma (decimal r) (omega arith) (decimal-digits r))) (decimal-value k (omega arith))
+-- ---- the numbers of operands that have a counterpart
 
 -- an operand that has a counterpart
 abbrev pub Spelled : Operand → Type 0
@@ -62,27 +29,6 @@ Spelled (Cell n) = Unit {0}
 Spelled (PublicCell r k) = Unit {0}
 Spelled (SensitiveCell r k) = Unit {0}
 Spelled (TableCell r k) = ⊥
-
-same-operand : (must : Bool) (op : Operand) → T (operandRight must op) → Spelled op → operandIn (spellPublished op) ≡ op
-unfolding operandRight spellPublished operandIn based
-same-operand must Empty h c = refl
-same-operand must (Literal n) h c = let l : n ≤ 255 = leb→le n 255 (and-both must _ h .1) in ap Literal (decimal-value n (omega arith))
-same-operand must (Register n) h c = let l : n < 32 = ltb→lt n 32 (and-both must _ h .1) in ap Register (decimal-value n (omega arith))
-same-operand must (Cell n) h c = let l : n < 512 = ltb→lt n 512 (and-both must _ h .1) in ap Cell (decimal-value n (omega arith))
-same-operand must (PublicCell r k) h c =
-    let w = and-both (must && ltb r 32) (ltb k 128) h in
-    let l : r < 32 = ltb→lt r 32 (and-both must _ (w .0) .1) in
-    let m : k < 128 = ltb→lt k 128 (w .1) in
-    rw (base-in r k l (omega arith), offset-in r k l (omega arith), lt-ltb k 128 m)
-same-operand must (SensitiveCell r k) h c =
-    let w = and-both (must && ltb r 32) (ltb k 128) h in
-    let l : r < 32 = ltb→lt r 32 (and-both must _ (w .0) .1) in
-    let m : k < 128 = ltb→lt k 128 (w .1) in
-    let z : 128 + k - 128 ≡ k = omega arith in
-    rw (base-in r (128 + k) l (omega arith), offset-in r (128 + k) l (omega arith), le-ltb (128 + k) 128 (omega arith), z)
-same-operand must (TableCell r k) h c = absurd c
-
--- ---- the numbers of the range are those of such operands
 
 spelled-of : (t1 t2 t3 t4 t5 t6 : Bool) (a b c d e f g h i : ℕ) → t6 ≡ true
     → Spelled (cond t1 Empty (cond t2 (Literal a) (cond t3 (Register b) (cond t4 (Cell c) (cond t5 (PublicCell d e) (cond t6 (SensitiveCell f g) (TableCell h i)))))))
@@ -97,12 +43,6 @@ spelled-of false false false false false false a b c d e f g h i q = absurd (fal
 pub number-spelled : (n : ℕ) → n < tables → Spelled (operandOf n)
 unfolding operandOf
 number-spelled n h = spelled-of (ltb n literals) (ltb n registers) (ltb n cells) (ltb n publics) (ltb n sensitives) (ltb n tables) _ _ _ _ _ _ _ _ _ (lt-ltb n tables h)
-
-pub published-distinct : Distinct (λ n. spellPublished (operandOf n)) tables
-published-distinct j k hj hk e =
-    sym (operand-number j)
-    ∙ ap operandCode (sym (same-operand (ltb 0 j) (operandOf j) (operand-back j (omega arith)) (number-spelled j hj)) ∙ ap operandIn e ∙ same-operand (ltb 0 k) (operandOf k) (operand-back k (omega arith)) (number-spelled k hk))
-    ∙ operand-number k
 
 pub spelled-number : (must : Bool) (op : Operand) → T (operandRight must op) → Spelled op → operandCode op < tables
 unfolding operandRight
@@ -145,7 +85,7 @@ plain-kept : (c : ℕ) (s : List ℕ) → eqb c 33 ≡ false → withOffset (c �
 unfolding withOffset
 plain-kept c s h = rw h
 
-kept-offset : (op : Operand) → withOffset (spellPublished op) ≡ spellPublished op
+pub kept-offset : (op : Operand) → withOffset (spellPublished op) ≡ spellPublished op
 unfolding spellPublished
 kept-offset Empty = none-kept
 kept-offset (Literal n) = plain-kept 35 (decimal n) refl
@@ -154,14 +94,6 @@ kept-offset (Cell n) = plain-kept 64 (decimal n) refl
 kept-offset (PublicCell r k) = kept-based r k
 kept-offset (SensitiveCell r k) = kept-based r (128 + k)
 kept-offset (TableCell r k) = none-kept
-
--- THE SPELLING OF AN OPERAND IS READ AS ITS NUMBER
-pub published-there : (must : Bool) (op : Operand) → T (operandRight must op) → Spelled op → publishedNumber (spellPublished op) ≡ some (operandCode op)
-unfolding publishedNumber
-published-there must op h c =
-    let o = operand-there must op h in
-    ap (spelledFrom (λ n. spellPublished (operandOf n)) 0 tables) (kept-offset op ∙ ap spellPublished (sym (o .same)))
-    ∙ spelled-there (λ n. spellPublished (operandOf n)) tables published-distinct (operandCode op) (spelled-number must op h c)
 
 -- ---- what the spellings are like
 
@@ -194,18 +126,36 @@ published-plain (PublicCell r k) = based-plain r k
 published-plain (SensitiveCell r k) = based-plain r (128 + k)
 published-plain (TableCell r k) = tt
 
+-- up to the cells they are spelled as in our line form
+pub spelled-alike : (k : ℕ) → k < publics → spellOperand (operandOf k) ≡ spellPublished (operandOf k)
+unfolding operandOf spellOperand spellPublished
+spelled-alike k h = by (ltb k literals) (ltb k registers) (ltb k cells) (ltb k publics) (lt-ltb k publics h) _
+  where
+    by : (t u v w : Bool) → w ≡ true → (x : Operand)
+        → spellOperand (cond t Empty (cond u (Literal (k - literals)) (cond v (Register (k - registers)) (cond w (Cell (k - cells)) x))))
+        ≡ spellPublished (cond t Empty (cond u (Literal (k - literals)) (cond v (Register (k - registers)) (cond w (Cell (k - cells)) x))))
+    by true u v w e x = refl
+    by false true v w e x = refl
+    by false false true w e x = refl
+    by false false false true e x = refl
+    by false false false false e x = absurd (false≢true e)
+
 some-bytes : (c : ℕ) (s : List ℕ) → ltb 0 (length (c ∷ s)) ≡ true
 some-bytes c s = lt-ltb 0 (length (c ∷ s)) (omega arith)
 
+based-some : (r k : ℕ) → ltb 0 (length (based r k)) ≡ true
+unfolding based
+based-some r k = some-bytes 33 (114 ∷ (decimal r ++ (comma ∷ decimal k)))
+
 pub published-filled : (must : Bool) (op : Operand) → T (operandRight must op) → Spelled op → ltb 0 (length (spellPublished op)) ≡ must
-unfolding operandRight spellPublished based
+unfolding operandRight spellPublished
 published-filled true Empty h c = absurd h
 published-filled false Empty h c = refl
 published-filled true (Literal n) h c = some-bytes 35 (decimal n)
 published-filled true (Register n) h c = some-bytes 114 (decimal n)
 published-filled true (Cell n) h c = some-bytes 64 (decimal n)
-published-filled true (PublicCell r k) h c = some-bytes 33 (after-sign r k)
-published-filled true (SensitiveCell r k) h c = some-bytes 33 (after-sign r (128 + k))
+published-filled true (PublicCell r k) h c = based-some r k
+published-filled true (SensitiveCell r k) h c = based-some r (128 + k)
 published-filled must (TableCell r k) h c = absurd c
 published-filled false (Literal n) h c = absurd h
 published-filled false (Register n) h c = absurd h

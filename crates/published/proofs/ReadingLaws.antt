@@ -14,10 +14,6 @@ use Rattle.published.specs.Published.{isBlank}
 use Rattle.published.specs.Published.{isAlphanumeric, allAlphanumeric}
 use Rattle.published.specs.Reading.{trimmed, wordOf}
 
-pub and-true : (t : Bool) → t && true ≡ t
-and-true true = refl
-and-true false = refl
-
 -- ---- blanks and parts, at a position
 
 module _ (s : List ℕ) (i : ℕ) (h : i < length s) where

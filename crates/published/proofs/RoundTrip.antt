@@ -7,7 +7,7 @@ use lib.ListN.{length}
 use borrow.Author.Tests.{le-ltb}
 use Rattle.model.specs.declared.Line.{Line}
 use Rattle.model.specs.Limits.{maxAccepted, maxLines}
-use Rattle.model.specs.Answers.{Report, counted, refused, andThen}
+use Rattle.model.specs.Answers.{Report, counted, andThen}
 use Rattle.model.specs.Lines.{AllCorrect}
 use Rattle.model.specs.Stored.{codes, lines}
 use Rattle.model.specs.Text.{spellLine, Reading, textOf}

@@ -20,7 +20,7 @@ use Rattle.model.specs.declared.Line.{Line}
 use Rattle.model.specs.Limits.{lineWidth, maxAccepted}
 use Rattle.model.specs.Answers.{Report, report, done, refused, counted, outcome, atFront}
 use Rattle.model.specs.Stored.{literals, registers, cells, publics, sensitives, tables, operandOf, targetOf, lineAt, lineOf, atLine, lineCount, lines, linesFrom}
-use Rattle.model.specs.Text.{newline, comma, decimal, spellOpcode, spellOperand, fitted}
+use Rattle.model.specs.Text.{newline, comma, decimal, spellOpcode, fitted}
 use Rattle.model.specs.Marks.{markCheck}
 use Rattle.model.proofs.TestLaws.{below, and-both, holds}
 use Rattle.model.proofs.StoredLaws.{operand-back, lines-length, length-lines, never-counted}
@@ -35,24 +35,11 @@ use Rattle.published.specs.Published.{space, colon}
 use Rattle.published.specs.Published.{based, spellPublished, lineName, spellTargetName}
 use Rattle.published.specs.Published.{spaced, instructionText, goesTo, isTarget, labelLine, publishedFrom, published, bit}
 use Rattle.published.specs.Printing.{markedBy, Used, Handed, publishOutcome}
+use Rattle.printing.proofs.PrintLaws.{minus-0, one-less}
 use Rattle.published.proofs.TableLaws.{zeros}
 use Rattle.published.proofs.OperandSpelling.{number-spelled, published-filled}
 
 -- ---- operands
-
--- up to the cells they are spelled as in our line form
-pub spelled-alike : (k : ℕ) → k < publics → spellOperand (operandOf k) ≡ spellPublished (operandOf k)
-unfolding operandOf spellOperand spellPublished
-spelled-alike k h = by (ltb k literals) (ltb k registers) (ltb k cells) (ltb k publics) (lt-ltb k publics h) _
-  where
-    by : (t u v w : Bool) → w ≡ true → (x : Operand)
-        → spellOperand (cond t Empty (cond u (Literal (k - literals)) (cond v (Register (k - registers)) (cond w (Cell (k - cells)) x))))
-        ≡ spellPublished (cond t Empty (cond u (Literal (k - literals)) (cond v (Register (k - registers)) (cond w (Cell (k - cells)) x))))
-    by true u v w e x = refl
-    by false true v w e x = refl
-    by false false true w e x = refl
-    by false false false true e x = refl
-    by false false false false e x = absurd (false≢true e)
 
 pub spelled-public : (k : ℕ) → publics ≤ k → k < sensitives → based ((k - publics) / 128) ((k - publics) % 128) ≡ spellPublished (operandOf k)
 unfolding operandOf spellPublished
@@ -95,12 +82,6 @@ goes i t =
     same : 0 < t → eqb (t - 1) i ≡ eqb t (i + 1)
     same h = below t (i + 1) (λ l. ne-eqb (t - 1) i (λ e. omega arith) ∙ sym (ne-eqb t (i + 1) (λ e. omega arith)))
         (λ l. below (i + 1) t (λ m. ne-eqb (t - 1) i (λ e. omega arith) ∙ sym (ne-eqb t (i + 1) (λ e. omega arith))) (λ m. eq-eqb (t - 1) i (omega arith) ∙ sym (eq-eqb t (i + 1) (omega arith))))
-
-one-less : (n i : ℕ) → i < n → n - i ≡ suc (n - (i + 1))
-one-less n i h = omega arith
-
-minus-0 : (n : ℕ) → n - 0 ≡ n
-minus-0 n = omega arith
 
 -- ---- the targets used, a line after the other
 

@@ -16,8 +16,8 @@ use Rattle.model.proofs.StoredLaws.{codes-length, whole-check}
 use Rattle.model.proofs.Overwrites.{sets-front}
 use Rattle.published.specs.declared.Converted.{Converted}
 use Rattle.published.specs.declared.Converted.the-variants.{Refused}
-use Rattle.published.specs.Published.{textLines, noneSeen, seenFrom, takeInCheck, takenIn, takeInOutcome}
-use Rattle.published.specs.Passes.{conversion, keptLines}
+use Rattle.published.specs.Published.{textLines, noneSeen, seenFrom, takeInCheck, takenIn, takeInOutcome, conversion}
+use Rattle.published.specs.Passes.{keptLines}
 use Rattle.published.specs.Printing.{Handed}
 use Rattle.published.proofs.TakenLines.{Program}
 use Rattle.published.proofs.RoundTrip.{taken-lines, few-taken, all-correct}

@@ -7,24 +7,18 @@ use lib.Dec.{ltb, leb, eqb}
 use lib.ListN.{length, getD, set, take, drop}
 use lib.Seq.{sets}
 use Rattle.model.specs.Limits.{lineWidth, maxAccepted}
-use Rattle.model.specs.Answers.{Report, counted, refused}
+use Rattle.model.specs.Answers.{counted}
 use Rattle.model.specs.Stored as stored
 use Rattle.published.specs.declared.Converted.{Converted}
-use Rattle.published.specs.declared.Converted.the-variants.{Count, Refused}
 use Rattle.published.specs.declared.instructions.Instruction.{Instruction}
 use Rattle.published.specs.declared.instructions.Read.{Read}
-use Rattle.published.specs.declared.instructions.Read.the-variants.{Line, Refused as Wrong}
+use Rattle.published.specs.declared.instructions.Read.the-variants.{Line, Refused}
 use Rattle.published.specs.declared.taking.Tally.{Tally}
-use Rattle.published.specs.Published.{words, TextLine, Seen, noneSeen, labelsAfter, after, seenFrom, labelWrong, parsedLine, textLines, takeInCheck}
+use Rattle.published.specs.Published.{words, TextLine, Seen, noneSeen, labelsAfter, after, seenFrom, labelWrong, parsedLine, textLines, takeInCheck, conversion}
 use Rattle.published.specs.Reading.{trimmed, labelSize}
 use Rattle.published.specs.Table.{entries, Linked}
 
 -- ---- what the code's answers mean
-
--- the number and values of each answer
-abbrev pub conversion : Converted → Report
-conversion (Count n) = counted n
-conversion (Refused number line) = refused number line
 
 -- the stored number of a target, 0 for none
 abbrev pub targetNumber : Bool → ℕ → ℕ
@@ -36,7 +30,7 @@ instructionNumbers l = l .mark ∷ l .opcode ∷ l .destination ∷ l .first ∷
 
 abbrev pub meaning : Read → stored.Parsed
 meaning (Line l) = stored.numbers (instructionNumbers l)
-meaning (Wrong k) = stored.wrong k
+meaning (Refused k) = stored.wrong k
 
 -- ---- the first pass
 

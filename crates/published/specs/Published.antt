@@ -18,6 +18,8 @@ use Rattle.model.specs.Lines.{Filled, fills}
 use Rattle.model.specs.Stored.{tables, opcodeOf, operandOf, lineOf, lines, Parsed, numbers, wrong, orWrong, noLiteral, fault}
 use Rattle.model.specs.Text.{newline, comma, decimal, spellOpcode, sameBytes, spelledFrom, opcodeField, upTo, countOf, Reading, reading, textOf, fitted}
 use Rattle.model.specs.Marks.{markFault, markCheck}
+use Rattle.published.specs.declared.Converted.{Converted}
+use Rattle.published.specs.declared.Converted.the-variants.{Count, Refused}
 
 -- ---- blanks are spaces and tabs, one or more between parts, any before and after, none inside; a `;` anywhere starts a comment; a line ends
 -- with a newline
@@ -313,3 +315,9 @@ takenIn text = textOf (storedLines (seenFrom noneSeen (textLines text)) (textLin
 
 unfoldable pub takeInOutcome : List ℕ → List ℕ → Outcome
 takeInOutcome text out = unlessRefused (takeInCheck text) (out ∷ []) (fitted (takenIn text) out)
+
+-- ---- the number and values of each answer of the code
+
+abbrev pub conversion : Converted → Report
+conversion (Count n) = counted n
+conversion (Refused number line) = refused number line

@@ -3,7 +3,6 @@
 use mathlib.Core.Path.{_≡_}
 use mathlib.Core.Bool.{cond}
 use mathlib.Core.List.{List, [], _∷_}
-use mathlib.Core.Option.{none}
 use Prim.Native.Nat.{ℕ, _+_, _-_, _*_}
 use lib.Dec.{ltb, eqb}
 use lib.ListN.{length, getD, take, drop}
@@ -11,7 +10,7 @@ use Rattle.model.specs.Stored as stored
 use Rattle.model.specs.Text.{newline, comma, upTo, past}
 use Rattle.text.specs.declared.Field.{Field}
 use Rattle.text.specs.declared.Field.the-variants.{Is, Wrong}
-use Rattle.text.specs.Fields.{readNumber, shift}
+use Rattle.text.specs.Fields.{readNumber, readDirect}
 use Rattle.published.specs.declared.lines.Place.{Place}
 use Rattle.published.specs.Published.{isBlank, semicolon, isLabel}
 
@@ -54,17 +53,12 @@ readBased s =
     (cond (eqb (length (upTo comma (drop 1 s))) (length (drop 1 s))) (Is 0) (readNumber 256 (past comma (drop 1 s)))))
     Wrong
 
--- what stands after the first byte c of an operand
-unfoldable pub readForm : ℕ → List ℕ → Field
-readForm c s =
-    cond (eqb c 35) (shift stored.literals (readNumber 256 s))
-    (cond (eqb c 114) (shift stored.registers (readNumber 32 s))
-    (cond (eqb c 64) (shift stored.cells (readNumber 512 s))
-    (cond (eqb c 33) (readBased s)
-    Wrong)))
-
+-- all but `!` is read as in our line form
 unfoldable pub readPart : List ℕ → Field
-readPart s = cond (eqb (length s) 0) (Is 0) (readForm (getD s 0 0) (drop 1 s))
+readPart s =
+    cond (eqb (length s) 0) (Is 0)
+    (cond (eqb (getD s 0 0) 33) (readBased (drop 1 s))
+    (readDirect (getD s 0 0) (drop 1 s)))
 
 -- ---- lines
 

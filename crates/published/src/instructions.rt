@@ -4,9 +4,8 @@ ghost use mathlib.Core.Bool.{true};
 ghost use mathlib.Core.List.{[]};
 ghost use Prim.Native.Nat.{ℕ, _<_, _≤_};
 ghost use Rattle.model.specs.Lines.{fills};
-ghost use Rattle.model.specs.Stored.{opcodeOf, opcodes, noLiteral};
-ghost use Rattle.text.specs.Fields.{found};
-ghost use Rattle.published.specs.Published.{words, publishedNumber, markFor, orMissing, operandsParsed, partsParsed, instructionParsed};
+ghost use Rattle.model.specs.Stored.{opcodeOf, opcodes};
+ghost use Rattle.published.specs.Published.{words, markFor, orMissing, operandsParsed, partsParsed, instructionParsed};
 ghost use Rattle.published.specs.Reading.{trimmed, partsThere};
 ghost use Rattle.published.specs.Table.{entries, Low, Linked};
 ghost use Rattle.published.specs.Passes.{targetNumber, meaning};
@@ -17,9 +16,8 @@ use crate::labels::find_label;
 use crate::operands::operand;
 use crate::parts::after;
 use crate::parts::word;
-use coding::LITERALS;
-use coding::REGISTERS;
 use text::Field;
+use text::fields::no_literal;
 use text::fields::opcode;
 
 // The stored numbers of an instruction; its target, where it has one, is the line that a label names.
@@ -39,22 +37,6 @@ pub enum Read {
     Refused(u8),
 }
 
-// Any operand but a literal.
-fn destination(s: &[u8]) -> Field
-    ensures { λ r. ⌜ found r ≡ noLiteral (publishedNumber (now (s .entry))) ⌝ }
-{
-    let Field::Is(k) = operand(s) else {
-        return Field::Wrong;
-    };
-    if k < LITERALS {
-        return Field::Is(k);
-    }
-    if k < REGISTERS {
-        return Field::Wrong;
-    }
-    Field::Is(k)
-}
-
 // The mark is s exactly where the destination is sensitive.
 fn mark_for(d: u16) -> u16
     ensures { λ r. ⌜ r ≡ markFor d ⌝ }
@@ -69,7 +51,7 @@ fn mark_for(d: u16) -> u16
 fn operands(o: u16, d: &[u8], a: &[u8], b: &[u8], aimed: bool, target: usize) -> Read
     ensures { λ r. ⌜ ((n : ℕ) → target ≤ n → meaning r ≡ operandsParsed n o (now (d .entry)) (now (a .entry)) (now (b .entry)) (targetNumber aimed target)) ⌝ }
 {
-    let Field::Is(destination) = destination(d) else {
+    let Field::Is(destination) = no_literal(operand(d)) else {
         return Read::Refused(25);
     };
     let Field::Is(first) = operand(a) else {

@@ -73,7 +73,7 @@ fn is_name(s: &[u8]) -> bool
     all_alphanumeric(s)
 }
 
-// As above.
+// The same bytes. All are looked at here too.
 fn is_same(x: &[u8], y: &[u8]) -> bool
     ensures { λ r. ⌜ r ≡ sameBytes (now (x .entry)) (now (y .entry)) ⌝ }
 {

@@ -6,8 +6,7 @@ ghost use Prim.Native.Nat.{_*_};
 ghost use lib.ListN.{length};
 ghost use Rattle.model.specs.Answers.{outcome};
 ghost use Rattle.model.specs.Limits.{lineWidth, maxAccepted};
-ghost use Rattle.published.specs.Published.{takeInOutcome, sendOutCheck, sendOutOutcome};
-ghost use Rattle.published.specs.Passes.{conversion};
+ghost use Rattle.published.specs.Published.{takeInOutcome, sendOutCheck, sendOutOutcome, conversion};
 ghost use Rattle.published.specs.Printing.{Unread};
 use model::Answer;
 use model::LINE_WIDTH;
@@ -35,6 +34,11 @@ pub enum Converted {
     Count(usize),
     Refused { number: u8, line: usize },
 }
+
+// The most bytes of a published line with its label, and of the label at the end.
+pub const LONGEST_LINE: usize = 61;
+
+pub const LONGEST_LABEL: usize = 8;
 
 // The numbers of the longest accepted program.
 const STORE_ROOM: usize = LINE_WIDTH * MAX_ACCEPTED;

@@ -34,7 +34,7 @@ fn code_size(line: &[u8]) -> usize
     i
 }
 
-// The line that begins at a place. Each of its bytes is looked at once.
+// The line that begins at a place. Its end is sought behind what stands before a comment.
 pub(crate) fn line_at(text: &[u8], at: usize) -> Place
     requires { ⌜ at < length (now text) ⌝ }
     ensures { λ r. ⌜ Placed (now (text .entry)) at r ⌝ }

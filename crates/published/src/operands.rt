@@ -1,19 +1,16 @@
 // An operand of the published spelling: read to its stored number, or found to have no counterpart.
 ghost use mathlib.Core.Path.{_≡_};
-ghost use Prim.Native.Nat.{_≤_, _<_};
-ghost use Rattle.text.specs.Fields.{found, readNumber, shift};
+ghost use Prim.Native.Nat.{_<_};
+ghost use Rattle.text.specs.Fields.{found};
 ghost use Rattle.published.specs.Published.{publishedNumber};
-ghost use Rattle.published.specs.Reading.{readBased, readForm, pointedAt};
-use coding::CELLS;
-use coding::LITERALS;
+ghost use Rattle.published.specs.Reading.{readBased, pointedAt};
 use coding::PUBLICS;
-use coding::REGISTERS;
 use coding::SENSITIVES;
 use text::Field;
 use text::cut::beyond;
 use text::cut::find;
+use text::fields::direct;
 use text::fields::number;
-use text::fields::plain;
 
 // The cell that a base and an offset below 256 name.
 fn pointed(b: u16, k: u16) -> Field
@@ -50,31 +47,19 @@ fn based(s: &[u8]) -> Field
     pointed(b, k)
 }
 
-// An operand whose first byte is c.
-fn form(c: u8, s: &[u8]) -> Field
-    ensures { λ r. ⌜ r ≡ readForm c (now (s .entry)) ⌝ }
-{
-    if c == b'#' {
-        return plain(s, 256, LITERALS);
-    }
-    if c == b'r' {
-        return plain(s, 32, REGISTERS);
-    }
-    if c == b'@' {
-        return plain(s, 512, CELLS);
-    }
-    if c == b'!' {
-        return based(s);
-    }
-    Field::Wrong
-}
-
-// An operand; no part is 0.
+// An operand; no part is 0. All but `!` is read as in our line form.
 pub(crate) fn operand(s: &[u8]) -> Field
     ensures { λ r. ⌜ found r ≡ publishedNumber (now (s .entry)) ⌝ }
 {
     if s.len() == 0 {
         return Field::Is(0);
     }
-    form(s[0], &s[1..])
+    if s[0] == b'!' {
+        return based(&s[1..]);
+    }
+    // Taken apart, so that no answer is put together in memory: a listing of jumps, whose fields are empty, would take a sixth longer.
+    let Field::Is(k) = direct(s[0], &s[1..]) else {
+        return Field::Wrong;
+    };
+    Field::Is(k)
 }

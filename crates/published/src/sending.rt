@@ -9,10 +9,11 @@ ghost use Rattle.model.specs.Limits.{maxAccepted};
 ghost use Rattle.model.specs.Stored.{operandOf, targetOf, lineOf, linesFrom};
 ghost use Rattle.model.specs.Text.{newline};
 ghost use Rattle.printing.specs.Writing.{Wrote, printable};
-ghost use Rattle.published.specs.Published.{based, spellPublished, spellTargetName, spaced, instructionText, labelLine, publishedFrom, readText};
-ghost use Rattle.published.specs.Passes.{conversion};
+ghost use Rattle.published.specs.Published.{based, spellPublished, spellTargetName, spaced, instructionText, labelLine, publishedFrom, readText, conversion};
 ghost use Rattle.published.specs.Printing.{markedBy, Used, Handed, publishOutcome};
 use crate::Converted;
+use crate::LONGEST_LABEL;
+use crate::LONGEST_LINE;
 use coding::LITERALS;
 use coding::PUBLICS;
 use coding::SENSITIVES;
@@ -33,11 +34,6 @@ use text::line::refusal;
 
 // A number for each line of an accepted program, and for the end.
 const USED_ROOM: usize = MAX_ACCEPTED + 1;
-
-// The most bytes of a line with its label, and of the label at the end.
-const LINE_ROOM: usize = 61;
-
-const LABEL_ROOM: usize = 8;
 
 fn none_used() -> [u8; USED_ROOM]
     ensures { λ r. ⌜ (length r ≡ maxAccepted + 1) × Used [] r ⌝ }
@@ -193,7 +189,7 @@ fn fits(program: &[u16], n: usize, used: &[u8], room: usize) -> bool
     requires { ⌜ (n ≤ maxAccepted) × (maxAccepted < length (now used)) × Used (linesFrom (now program) 0 n) (now used) ⌝ }
     ensures { λ r. ⌜ r ≡ leb (length (publishedFrom (linesFrom (now (program .entry)) 0 n) 0 (linesFrom (now (program .entry)) 0 n))) room ⌝ }
 {
-    if LINE_ROOM * n + LABEL_ROOM <= room {
+    if LONGEST_LINE * n + LONGEST_LABEL <= room {
         return true;
     }
     let mut none = [0u8; 1];
@@ -221,7 +217,7 @@ pub(crate) fn publish(program: &[u16], out: &mut [u8]) -> Converted
     }
 }
 
-// What reading a text answers that has more lines than an accepted program, with room for every line.
+// What reading a text answers where there is room for every line; nothing is stored.
 pub(crate) fn read_through(text: &[u8]) -> Answer
     ensures { λ r. ⌜ report r ≡ readText (now (text .entry)) .answer ⌝ }
 {

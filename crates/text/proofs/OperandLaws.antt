@@ -11,14 +11,14 @@ use lib.ListN.{length, getD, drop}
 use lib.Dec.{eqb}
 use borrow.Author.Tests.{ne-eqb, lt-ltb, le-ltb, eqb-true, eqb-false}
 use Rattle.model.specs.Limits.{maxLines}
-use Rattle.model.specs.Stored.{operands, targets, operandOf, targetOf}
+use Rattle.model.specs.Stored.{publics, operands, targets, operandOf, targetOf}
 use Rattle.model.specs.Text.{upTo, past, countOf, decimal, indirect, spellOperand, spellTarget, operandField, targetField}
 use Rattle.model.proofs.TestLaws.{below}
 use Rattle.model.proofs.DecimalLaws.{decimal-digits, decimal-some}
 use Rattle.model.proofs.CutLaws.{digits-clean, upTo-clean, past-clean, rejoin, past-none}
 use Rattle.model.proofs.SpellingLaws.{based, spelled-is}
 use Rattle.model.proofs.RoundTrip.{no-text}
-use Rattle.text.specs.Fields.{found, readNumber, shift, joined, readIndirect, readKind}
+use Rattle.text.specs.Fields.{found, readNumber, shift, joined, readIndirect, readDirect, readKind}
 use Rattle.text.specs.declared.Field.{Field}
 use Rattle.text.specs.declared.Field.the-variants.{Is, Wrong}
 use Rattle.text.proofs.DigitLaws.{never, number-below, number-decimal, decimal-number}
@@ -31,7 +31,7 @@ unfoldable pub readTarget : List ℕ → Field
 readTarget s = cond (eqb (length s) 0) (Is 0) (shift 1 (readNumber (maxLines + 1) s))
 
 -- a field that is not empty
-filled : (c : ℕ) (x : List ℕ) → eqb (length (c ∷ x)) 0 ≡ false
+pub filled : (c : ℕ) (x : List ℕ) → eqb (length (c ∷ x)) 0 ≡ false
 filled c x = ne-eqb (length (c ∷ x)) 0 (λ e. omega arith)
 
 -- ---- spelled, then read
@@ -63,7 +63,7 @@ spell (sensitive b n hb hn e) = 37 ∷ based b n
 spell (table b n hb hn e) = 94 ∷ based b n
 
 spell-read : {k : ℕ} (r : Range k) → readOperand (spell r) ≡ Is k
-unfolding spell readOperand readKind shift
+unfolding spell readOperand readKind readDirect shift
 spell-read (empty e) = ap Is (sym e)
 spell-read (literal n h e) = rw (filled 35 (decimal n), number-decimal 256 n h (omega arith), e)
 spell-read (register n h e) = rw (filled 114 (decimal n), number-decimal 32 n h (omega arith), e)
@@ -150,10 +150,10 @@ record Shown (s : List ℕ) (k : ℕ) : Type 0 where
   kind : Range k
   text : spell kind ≡ s
 
-data Shifted (m : ℕ) (x : Field) (k : ℕ) : Type 0 where
+pub data Shifted (m : ℕ) (x : Field) (k : ℕ) : Type 0 where
   by-shift : (j : ℕ) → x ≡ Is j → k ≡ m + j → Shifted m x k
 
-shift-back : (m : ℕ) (x : Field) (k : ℕ) → shift m x ≡ Is k → Shifted m x k
+pub shift-back : (m : ℕ) (x : Field) (k : ℕ) → shift m x ≡ Is k → Shifted m x k
 unfolding shift
 shift-back m (Is j) k e = by-shift j refl cc
 shift-back m Wrong k e = absurd (never e)
@@ -171,7 +171,7 @@ join-back w Wrong y k e = absurd (never e)
 data Based (w : ℕ) (t : List ℕ) (j : ℕ) : Type 0 where
   by-base : (b o : ℕ) → b < 32 → o < w → based b o ≡ t → j ≡ w * b + o → Based w t j
 
-cond-is : (t : Bool) (x : Field) (k : ℕ) → cond t x Wrong ≡ Is k → (t ≡ true) × (x ≡ Is k)
+pub cond-is : (t : Bool) (x : Field) (k : ℕ) → cond t x Wrong ≡ Is k → (t ≡ true) × (x ≡ Is k)
 cond-is true x k e = (refl, e)
 cond-is false x k e = absurd (never e)
 
@@ -233,31 +233,46 @@ module _ (t : List ℕ) (k : ℕ) where
   table-back : Shifted 8993 (readIndirect 256 t) k → Shown (94 ∷ t) k
   table-back (by-shift j p e) = table-at j e (indirect-back 256 t j (omega arith) (omega arith) p)
 
--- one of six tests
-module _ (P : Type 0) (k : ℕ) (u v w x y z : Field) where
-  six : (a b c d e f : Bool) → cond a u (cond b v (cond c w (cond d x (cond e y (cond f z Wrong))))) ≡ Is k
-      → (a ≡ true → u ≡ Is k → P) → (b ≡ true → v ≡ Is k → P) → (c ≡ true → w ≡ Is k → P)
-      → (d ≡ true → x ≡ Is k → P) → (e ≡ true → y ≡ Is k → P) → (f ≡ true → z ≡ Is k → P) → P
-  six true b c d e f q A B C D E F = A refl q
-  six false true c d e f q A B C D E F = B refl q
-  six false false true d e f q A B C D E F = C refl q
-  six false false false true e f q A B C D E F = D refl q
-  six false false false false true f q A B C D E F = E refl q
-  six false false false false false true q A B C D E F = F refl q
-  six false false false false false false q A B C D E F = absurd (never q)
+-- one of three tests, or what is left
+module _ (P : Type 0) (k : ℕ) (u v w x : Field) where
+  three : (a b c : Bool) → cond a u (cond b v (cond c w x)) ≡ Is k → (a ≡ true → u ≡ Is k → P) → (b ≡ true → v ≡ Is k → P) → (c ≡ true → w ≡ Is k → P) → (x ≡ Is k → P) → P
+  three true b c q A B C D = A refl q
+  three false true c q A B C D = B refl q
+  three false false true q A B C D = C refl q
+  three false false false q A B C D = D q
+
+direct-back : (c : ℕ) (t : List ℕ) (k : ℕ) → readDirect c t ≡ Is k → Shown (c ∷ t) k
+unfolding readDirect
+direct-back c t k q =
+    three (Shown (c ∷ t) k) k (shift 1 (readNumber 256 t)) (shift 257 (readNumber 32 t)) (shift 289 (readNumber 512 t)) Wrong (eqb c 35) (eqb c 114) (eqb c 64) q
+    (λ a e. rw (eqb-true c 35 a) (literal-back t k (shift-back _ _ k e)))
+    (λ a e. rw (eqb-true c 114 a) (register-back t k (shift-back _ _ k e)))
+    (λ a e. rw (eqb-true c 64 a) (cell-back t k (shift-back _ _ k e)))
+    (λ e. absurd (never e))
+
+shifted-below : (m n : ℕ) (t : List ℕ) (k : ℕ) → 0 < n → Shifted m (readNumber n t) k → k < m + n
+shifted-below m n t k h (by-shift j p e) = omega (arith, number-below n t j h p, e)
+
+pub direct-below : (c : ℕ) (t : List ℕ) (k : ℕ) → readDirect c t ≡ Is k → k < publics
+unfolding readDirect
+direct-below c t k q =
+    three (k < publics) k (shift 1 (readNumber 256 t)) (shift 257 (readNumber 32 t)) (shift 289 (readNumber 512 t)) Wrong (eqb c 35) (eqb c 114) (eqb c 64) q
+    (λ a e. omega (arith, shifted-below 1 256 t k (omega arith) (shift-back _ _ k e)))
+    (λ a e. omega (arith, shifted-below 257 32 t k (omega arith) (shift-back _ _ k e)))
+    (λ a e. omega (arith, shifted-below 289 512 t k (omega arith) (shift-back _ _ k e)))
+    (λ e. absurd (never e))
+
+pub direct-spelled : (c : ℕ) (t : List ℕ) (k : ℕ) → readDirect c t ≡ Is k → spellOperand (operandOf k) ≡ c ∷ t
+direct-spelled c t k q = let o = direct-back c t k q in spell-model (o .kind) ∙ o .text
 
 kind-back : (c : ℕ) (t : List ℕ) (k : ℕ) → readKind c t ≡ Is k → Shown (c ∷ t) k
 unfolding readKind
 kind-back c t k q =
-    six (Shown (c ∷ t) k) k
-    (shift 1 (readNumber 256 t)) (shift 257 (readNumber 32 t)) (shift 289 (readNumber 512 t)) (shift 801 (readIndirect 128 t)) (shift 4897 (readIndirect 128 t)) (shift 8993 (readIndirect 256 t))
-    (eqb c 35) (eqb c 114) (eqb c 64) (eqb c 33) (eqb c 37) (eqb c 94) q
-    (λ a e. rw (eqb-true c 35 a) (literal-back t k (shift-back _ _ k e)))
-    (λ a e. rw (eqb-true c 114 a) (register-back t k (shift-back _ _ k e)))
-    (λ a e. rw (eqb-true c 64 a) (cell-back t k (shift-back _ _ k e)))
+    three (Shown (c ∷ t) k) k (shift 801 (readIndirect 128 t)) (shift 4897 (readIndirect 128 t)) (shift 8993 (readIndirect 256 t)) (readDirect c t) (eqb c 33) (eqb c 37) (eqb c 94) q
     (λ a e. rw (eqb-true c 33 a) (public-back t k (shift-back _ _ k e)))
     (λ a e. rw (eqb-true c 37 a) (sensitive-back t k (shift-back _ _ k e)))
     (λ a e. rw (eqb-true c 94 a) (table-back t k (shift-back _ _ k e)))
+    (direct-back c t k)
 
 operand-shown : (s : List ℕ) (k : ℕ) → readOperand s ≡ Is k → Shown s k
 unfolding readOperand spell
@@ -266,7 +281,7 @@ operand-shown (c ∷ t) k e = kind-back c t k (rw (filled c t) at e)
 
 -- ---- exactly the spelling
 
-found-is : (x : Field) (k : ℕ) → found x ≡ some k → x ≡ Is k
+pub found-is : (x : Field) (k : ℕ) → found x ≡ some k → x ≡ Is k
 found-is (Is j) k e = let q : j ≡ k = cc in ap Is q
 found-is Wrong k e = let z : _≡_ {A = ℕ} 0 1 = cc in absurd (omega arith)
 

@@ -54,13 +54,18 @@ readIndirect w s =
     (joined w (readNumber 32 (upTo 43 (drop 1 s))) (readNumber w (past 43 (drop 1 s))))
     Wrong
 
--- what stands after the first byte c of an operand
-unfoldable pub readKind : ℕ → List ℕ → Field
-readKind c s =
+-- what stands after the first byte c of an operand that is a value, a register or a cell
+unfoldable pub readDirect : ℕ → List ℕ → Field
+readDirect c s =
     cond (eqb c 35) (shift literals (readNumber 256 s))
     (cond (eqb c 114) (shift registers (readNumber 32 s))
     (cond (eqb c 64) (shift cells (readNumber 512 s))
-    (cond (eqb c 33) (shift publics (readIndirect 128 s))
+    Wrong))
+
+-- of any operand
+unfoldable pub readKind : ℕ → List ℕ → Field
+readKind c s =
+    cond (eqb c 33) (shift publics (readIndirect 128 s))
     (cond (eqb c 37) (shift sensitives (readIndirect 128 s))
     (cond (eqb c 94) (shift tables (readIndirect 256 s))
-    Wrong)))))
+    (readDirect c s)))

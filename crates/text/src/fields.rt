@@ -4,7 +4,7 @@ ghost use mathlib.Core.List.{[], _∷_};
 ghost use Prim.Native.Nat.{_+_, _≤_, _<_};
 ghost use Rattle.model.specs.Stored.{opcodeOf, noLiteral};
 ghost use Rattle.model.specs.Text.{sameBytes, spelledFrom, spellOpcode, markField, opcodeField, operandField, targetField};
-ghost use Rattle.text.specs.Fields.{found, opcodeFound, digitsFrom, readNumber, shift, readIndirect, readKind};
+ghost use Rattle.text.specs.Fields.{found, opcodeFound, digitsFrom, readNumber, shift, readIndirect, readDirect, readKind};
 use crate::Field;
 use crate::cut::beyond;
 use crate::cut::find;
@@ -157,7 +157,7 @@ pub fn opcode(s: &[u8]) -> Field
 }
 
 // A number below n, and more.
-pub fn plain(s: &[u8], n: u16, more: u16) -> Field
+fn plain(s: &[u8], n: u16, more: u16) -> Field
     requires { ⌜ (0 < n) × (n + more < 65536) ⌝ }
     ensures { λ r. ⌜ r ≡ shift more (readNumber n (now (s .entry))) ⌝ }
 {
@@ -189,9 +189,9 @@ fn indirect(s: &[u8], w: u16, more: u16) -> Field
     Field::Is(more + (w * b + k))
 }
 
-// An operand whose first byte is c.
-fn kind(c: u8, s: &[u8]) -> Field
-    ensures { λ r. ⌜ r ≡ readKind c (now (s .entry)) ⌝ }
+// `#n`, `rN` or `@n`, whose first byte is c.
+pub fn direct(c: u8, s: &[u8]) -> Field
+    ensures { λ r. ⌜ r ≡ readDirect c (now (s .entry)) ⌝ }
 {
     if c == b'#' {
         return plain(s, 256, LITERALS);
@@ -202,6 +202,13 @@ fn kind(c: u8, s: &[u8]) -> Field
     if c == b'@' {
         return plain(s, 512, CELLS);
     }
+    Field::Wrong
+}
+
+// An operand whose first byte is c.
+fn kind(c: u8, s: &[u8]) -> Field
+    ensures { λ r. ⌜ r ≡ readKind c (now (s .entry)) ⌝ }
+{
     if c == b'!' {
         return indirect(s, 128, PUBLICS);
     }
@@ -211,7 +218,7 @@ fn kind(c: u8, s: &[u8]) -> Field
     if c == b'^' {
         return indirect(s, 256, TABLES);
     }
-    Field::Wrong
+    direct(c, s)
 }
 
 // An operand; an empty field is 0.
@@ -224,11 +231,11 @@ pub(crate) fn operand(s: &[u8]) -> Field
     kind(s[0], &s[1..])
 }
 
-// Any operand but a literal.
-pub(crate) fn destination(s: &[u8]) -> Field
-    ensures { λ r. ⌜ found r ≡ noLiteral (operandField (now (s .entry)) .number) ⌝ }
+// What was found, unless it is a literal.
+pub fn no_literal(f: Field) -> Field
+    ensures { λ r. ⌜ found r ≡ noLiteral (found f) ⌝ }
 {
-    let Field::Is(k) = operand(s) else {
+    let Field::Is(k) = f else {
         return Field::Wrong;
     };
     if k < LITERALS {
@@ -238,6 +245,13 @@ pub(crate) fn destination(s: &[u8]) -> Field
         return Field::Wrong;
     }
     Field::Is(k)
+}
+
+// Any operand but a literal.
+pub(crate) fn destination(s: &[u8]) -> Field
+    ensures { λ r. ⌜ found r ≡ noLiteral (operandField (now (s .entry)) .number) ⌝ }
+{
+    no_literal(operand(s))
 }
 
 // A line number, and 1 more; an empty field is 0.

@@ -3,7 +3,7 @@ use mathlib.Core.Path.{ap, _∙_}
 use denote.Ref.{now}
 use Prim.Native.Nat.{ℕ}
 use mathlib.Core.List.{List}
-use Rattle.published.specs.Passes.{conversion}
+use Rattle.published.specs.Published.{conversion}
 use Rattle.model.specs.Text.{fitted}
 use Rattle.filters.proofs.FilterLaws.{taken-narrow, taken-told, long-taken}
 use borrow.Author.Needs.{needs}

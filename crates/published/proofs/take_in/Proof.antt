@@ -4,7 +4,7 @@ use mathlib.Core.Path.{sym, ap, _∙_}
 use denote.Ref.{now}
 use lib.Seq.{length-take-le}
 use native.Mathlib.Omega.{arith}
-use Rattle.published.specs.Passes.{conversion}
+use Rattle.published.specs.Published.{conversion}
 use Rattle.published.proofs.RoundTrip.{few-taken}
 use Rattle.published.proofs.TakeLaws.{take-refused, take-done}
 use Rattle.published.proofs.CollectLaws.{none-linked}

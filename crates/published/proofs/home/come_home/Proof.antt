@@ -5,8 +5,7 @@ use denote.Ref.{now}
 use lib.Seq.{length-take-le}
 use lib.ListN.{take}
 use native.Mathlib.Omega.{arith}
-use Rattle.published.specs.Passes.{conversion}
-use Rattle.published.specs.Published.{takeInOutcome}
+use Rattle.published.specs.Published.{takeInOutcome, conversion}
 use Rattle.published.proofs.HomeCalls.{sent-bytes, home-claim}
 use borrow.Author.Needs.{needs}
 use Rattle.published.proofs.home.come_home.Statement.{statement}

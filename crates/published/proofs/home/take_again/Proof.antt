@@ -5,9 +5,8 @@ use denote.Ref.{now}
 use lib.Seq.{length-take-le}
 use lib.ListN.{take}
 use native.Mathlib.Omega.{arith}
-use Rattle.published.specs.Passes.{conversion}
 use Rattle.published.specs.Claims.{HomeCalls}
-use Rattle.published.specs.Published.{sendOutOutcome}
+use Rattle.published.specs.Published.{sendOutOutcome, conversion}
 use Rattle.published.proofs.HomeCalls.{taken-bytes, accepted-claim}
 use borrow.Author.Needs.{needs}
 use Rattle.published.proofs.home.take_again.Statement.{statement}

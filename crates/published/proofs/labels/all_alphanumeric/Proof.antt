@@ -6,7 +6,8 @@ use lib.ListN.{length, drop}
 use denote.Ref.{now}
 use borrow.Author.Needs.{needs}
 use Rattle.published.specs.Published.{allAlphanumeric}
-use Rattle.published.proofs.ReadingLaws.{letters-more, letters-none, and-true}
+use Rattle.published.proofs.ReadingLaws.{letters-more, letters-none}
+use Rattle.text.proofs.FieldLaws.{and-true}
 use Rattle.published.proofs.labels.all_alphanumeric.Statement.{statement}
 use Rattle.published.proofs.labels.all_alphanumeric.Tie as tie
 

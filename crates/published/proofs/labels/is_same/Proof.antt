@@ -7,7 +7,8 @@ use native.Mathlib.Omega.{arith}
 use denote.Ref.{now}
 use borrow.Author.Needs.{needs}
 use Rattle.model.specs.Text.{sameBytes}
-use Rattle.published.proofs.ReadingLaws.{other-length, same-more, same-none, and-true}
+use Rattle.published.proofs.ReadingLaws.{other-length, same-more, same-none}
+use Rattle.text.proofs.FieldLaws.{and-true}
 use Rattle.published.proofs.labels.is_same.Statement.{statement}
 use Rattle.published.proofs.labels.is_same.Tie as tie
 

@@ -1,7 +1,8 @@
 -- `published::sending::put_form` meets its contract. Assumes nothing.
 use denote.Ref.{now}
 use Rattle.printing.proofs.WroteLaws.{nothing, as-text}
-use Rattle.published.proofs.SendLaws.{spelled-alike, spelled-public, spelled-sensitive, spelled-table}
+use Rattle.published.proofs.OperandSpelling.{spelled-alike}
+use Rattle.published.proofs.SendLaws.{spelled-public, spelled-sensitive, spelled-table}
 use borrow.Author.Needs.{needs}
 use Rattle.published.proofs.sending.put_form.Statement.{statement}
 use Rattle.published.proofs.sending.put_form.Tie as tie

@@ -5,66 +5,43 @@ use borrow.Author.Needs.{needs}
 use Rattle.text.proofs.fields.kind.Statement.{statement}
 use Rattle.text.proofs.fields.kind.Tie as tie
 
-plain-requires : tie.Need-plain-requires
-plain-requires c κs = search needs
-
-returns : tie.Need-returns
-unfolding readKind
-returns c = simp (eq-eqb _ _ (c .before .if1 .taken)) (c .plain .ensures)
-
-plain-requires-2 : tie.Need-plain-requires-2
-plain-requires-2 c κs = search needs
-
-returns-2 : tie.Need-returns-2
-unfolding readKind
-returns-2 c = simp (ne-eqb _ _ (c .before .before .if1 .left), eq-eqb _ _ (c .before .if2 .taken)) (c .plain2 .ensures)
-
-plain-requires-3 : tie.Need-plain-requires-3
-plain-requires-3 c κs = search needs
-
-returns-3 : tie.Need-returns-3
-unfolding readKind
-returns-3 c = simp (ne-eqb _ _ (c .before .before .before .if1 .left), ne-eqb _ _ (c .before .before .if2 .left), eq-eqb _ _ (c .before .if3 .taken)) (c .plain3 .ensures)
-
 indirect-requires : tie.Need-indirect-requires
 indirect-requires c κs = search needs
 
-returns-4 : tie.Need-returns-4
+returns : tie.Need-returns
 unfolding readKind
-returns-4 c = simp (ne-eqb _ _ (c .before .before .before .before .if1 .left), ne-eqb _ _ (c .before .before .before .if2 .left), ne-eqb _ _ (c .before .before .if3 .left), eq-eqb _ _ (c .before .if4 .taken)) (c .indirect .ensures)
+returns c = simp (eq-eqb _ _ (c .before .if1 .taken)) (c .indirect .ensures)
 
 indirect-requires-2 : tie.Need-indirect-requires-2
 indirect-requires-2 c κs = search needs
 
-returns-5 : tie.Need-returns-5
+returns-2 : tie.Need-returns-2
 unfolding readKind
-returns-5 c = simp (ne-eqb _ _ (c .before .before .before .before .before .if1 .left), ne-eqb _ _ (c .before .before .before .before .if2 .left), ne-eqb _ _ (c .before .before .before .if3 .left), ne-eqb _ _ (c .before .before .if4 .left), eq-eqb _ _ (c .before .if5 .taken)) (c .indirect2 .ensures)
+returns-2 c = simp (ne-eqb _ _ (c .before .before .if1 .left), eq-eqb _ _ (c .before .if2 .taken)) (c .indirect2 .ensures)
 
 indirect-requires-3 : tie.Need-indirect-requires-3
 indirect-requires-3 c κs = search needs
 
-returns-6 : tie.Need-returns-6
+returns-3 : tie.Need-returns-3
 unfolding readKind
-returns-6 c = simp (ne-eqb _ _ (c .before .before .before .before .before .before .if1 .left), ne-eqb _ _ (c .before .before .before .before .before .if2 .left), ne-eqb _ _ (c .before .before .before .before .if3 .left), ne-eqb _ _ (c .before .before .before .if4 .left), ne-eqb _ _ (c .before .before .if5 .left), eq-eqb _ _ (c .before .if6 .taken)) (c .indirect3 .ensures)
+returns-3 c = simp (ne-eqb _ _ (c .before .before .before .if1 .left), ne-eqb _ _ (c .before .before .if2 .left), eq-eqb _ _ (c .before .if3 .taken)) (c .indirect3 .ensures)
 
-returns-7 : tie.Need-returns-7
+direct-requires : tie.Need-direct-requires
+direct-requires c κs = search needs
+
+returns-4 : tie.Need-returns-4
 unfolding readKind
-returns-7 c = simp (ne-eqb _ _ (c .before .before .before .before .before .if1 .left), ne-eqb _ _ (c .before .before .before .before .if2 .left), ne-eqb _ _ (c .before .before .before .if3 .left), ne-eqb _ _ (c .before .before .if4 .left), ne-eqb _ _ (c .before .if5 .left), ne-eqb _ _ (c .if6 .left))
+returns-4 c = simp (ne-eqb _ _ (c .before .before .before .if1 .left), ne-eqb _ _ (c .before .before .if2 .left), ne-eqb _ _ (c .before .if3 .left)) (c .direct .ensures)
 
 pub kind-spec : {M : Type 1} → statement M
 kind-spec =
     tie.close
     (tie.spec
-    plain-requires
-    returns
-    plain-requires-2
-    returns-2
-    plain-requires-3
-    returns-3
     indirect-requires
-    returns-4
+    returns
     indirect-requires-2
-    returns-5
+    returns-2
     indirect-requires-3
-    returns-6
-    returns-7)
+    returns-3
+    direct-requires
+    returns-4)
