@@ -4,7 +4,7 @@ use mathlib.Core.Path.{_≡_}
 use mathlib.Core.Bool.{Bool, true, false, cond}
 use mathlib.Core.List.{List, [], _∷_, _++_}
 use Prim.Native.Nat.{ℕ, zero, suc, _+_, _-_, _*_, _<_, _≤_}
-use lib.Dec.{ltb}
+use lib.Dec.{ltb, eqb}
 use lib.ListN.{getD, take, drop}
 use Rattle.model.specs.declared.Mark.{Mark}
 use Rattle.model.specs.declared.Line.{Line}
@@ -12,9 +12,9 @@ use Rattle.model.specs.declared.Opcode.{Opcode}
 use Rattle.model.specs.declared.Opcode.the-variants.{Nop, Jmp, Not, Mov, And, Orr, Xor, Lsl, Lsr, Add, Mul, Beq, Bne}
 use Rattle.model.specs.declared.Operand.{Operand}
 use Rattle.model.specs.Limits.{rowWidth, stateSize}
-use Rattle.model.specs.Answers.{halted, spent, Outcome, outcome}
+use Rattle.model.specs.Answers.{Report, halted, spent, refused, Outcome, outcome, andThen}
 use Rattle.model.specs.Places.{State, kind, isPublic, place, value}
-use Rattle.model.specs.Stored.{cells, lineAt}
+use Rattle.model.specs.Stored.{cells, lineAt, programCheck}
 use Rattle.model.specs.Step.{weight, distance, meaning, Row, result, next, after, busAfter, row}
 use Rattle.machine.specs.declared.Arguments.{Arguments}
 use Rattle.machine.specs.declared.Effect.{Effect}
@@ -120,6 +120,15 @@ stepBy l m =
 -- one step of a stored program
 abbrev pub stepOf : List ℕ → Machine → Machine
 stepOf p m = stepBy (lineAt p (m .run .counter)) m
+
+-- a run's refusals, from the sizes of the state and the trace store: 7, 3 to 6, then 18, then 20; else the count of lines
+unfoldable pub admission : List ℕ → ℕ → ℕ → ℕ → Report
+unfolding programCheck
+admission p budget size room =
+    andThen (programCheck p)
+    (cond (eqb size stateSize)
+    (cond (ltb room (rowWidth * budget)) (refused 20 0) (programCheck p))
+    (refused 18 0))
 
 abbrev pub haltedAt : Machine → Outcome
 haltedAt m = outcome (halted (m .run .counter) (m .run .steps)) (m .state ∷ m .trace ∷ [])

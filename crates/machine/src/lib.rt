@@ -12,7 +12,7 @@ ghost use Rattle.model.specs.Stored.{registers, opcodeOf, operandOf, targetOf, 
 ghost use Rattle.model.specs.Step.{weight, distance, shiftBy, negated, alu, taken, targetLine, meaning, next, after, busAfter, row};
 ghost use Rattle.model.specs.Places.{kind, place};
 ghost use Rattle.model.specs.Run.{runOutcome};
-ghost use Rattle.machine.specs.Loop.{fetchOf, argumentsOf, addressAt, isCell, CellBy, onBusAt, addresses, mask, Masks, Weights, rowOf, effectOf, jumps, putRow, machine, runFrom};
+ghost use Rattle.machine.specs.Loop.{fetchOf, argumentsOf, addressAt, isCell, CellBy, onBusAt, addresses, mask, Masks, Weights, rowOf, effectOf, jumps, putRow, machine, admission, runFrom};
 use model::Answer;
 use model::LINE_WIDTH;
 use model::Mark;
@@ -21,7 +21,7 @@ use model::ROW_WIDTH;
 use model::STATE_SIZE;
 use steps::Run;
 
-mod steps;
+pub mod steps;
 
 // The Hamming weight.
 fn weight(n: u16) -> u16
@@ -127,7 +127,7 @@ fn advanced(jumps: bool, target: u16, counter: u16) -> u16
 }
 
 // The byte at a place, 0 past the end.
-fn read(state: &[u8], at: usize) -> u8
+pub fn read(state: &[u8], at: usize) -> u8
     ensures { λ r. ⌜ r ≡ getD (now (state .entry)) at 0 ⌝ }
 {
     if at < state.len() { state[at] } else { 0 }
@@ -267,7 +267,7 @@ fn mask_at(i: usize) -> u8
 }
 
 // The masks of all places. A run makes them once: to tell the kind of a place at each argument of each step would make it slower by a third.
-fn all_masks() -> [u8; PLACES]
+pub fn all_masks() -> [u8; PLACES]
     ensures { λ r. ⌜ Masks r ⌝ }
 {
     let mut masks = [0u8; PLACES];
@@ -568,25 +568,36 @@ fn run_lines(
     }
 }
 
-// The run of a stored program from a start counter, with a budget of steps. A refusal leaves state and trace as they are.
-pub fn run(program: &[u16], start: u16, budget: u16, state: &mut [u8], trace: &mut [u16]) -> Answer
-    ensures { λ r. ⌜ outcome (report r) (now (state .exit) ∷ now (trace .exit) ∷ []) ≡ runOutcome (now (program .entry)) start budget (now (state .entry)) (now (trace .entry)) ⌝ }
+// A run's refusals, from the sizes of the state and the trace store; else the count of lines.
+pub fn admit(program: &[u16], budget: u16, size: usize, room: usize) -> Answer
+    ensures { λ r. ⌜ report r ≡ admission (now (program .entry)) budget size room ⌝ }
 {
     let checked = coding::check_program(program);
     let Answer::Count(_) = checked else {
         return checked;
     };
-    if state.len() != STATE_SIZE {
+    if size != STATE_SIZE {
         return Answer::Refused {
             number: 18,
             line: 0,
         };
     }
-    if trace.len() < ROW_WIDTH * (budget as usize) {
+    if room < ROW_WIDTH * (budget as usize) {
         return Answer::Refused {
             number: 20,
             line: 0,
         };
     }
+    checked
+}
+
+// The run of a stored program from a start counter, with a budget of steps. A refusal leaves state and trace as they are.
+pub fn run(program: &[u16], start: u16, budget: u16, state: &mut [u8], trace: &mut [u16]) -> Answer
+    ensures { λ r. ⌜ outcome (report r) (now (state .exit) ∷ now (trace .exit) ∷ []) ≡ runOutcome (now (program .entry)) start budget (now (state .entry)) (now (trace .entry)) ⌝ }
+{
+    let checked = admit(program, budget, state.len(), trace.len());
+    let Answer::Count(_) = checked else {
+        return checked;
+    };
     run_lines(program, start, budget, state, trace)
 }
