@@ -12,10 +12,12 @@ ghost use Rattle.model.specs.Run.{runOutcome};
 ghost use Rattle.images.specs.Moving.{moveOutcome};
 ghost use Rattle.sets.specs.Walk.{told, verdictReport};
 ghost use Rattle.published.specs.Published.{takeInOutcome, sendOutOutcome, conversion};
+ghost use Rattle.watch.specs.Watches.{watchOutcome};
 ghost use Rattle.dualrail.specs.Packing.{placed, packed, packedRun};
 use model::Answer;
 use published::Converted;
 use sets::Verdict;
+use watch::Watch;
 
 // The entry points below but `run` give no ending, and `run` gives no count: these arms are what the definition says of them.
 fn pack(answer: Answer) -> u64
@@ -174,6 +176,22 @@ pub extern "C" fn dualrail_run(
     ensures { λ _. ⌜ now (state .exit) ∷ now (trace .exit) ∷ [] ≡ runOutcome (now (program .entry)) start budget (now (state .entry)) (now (trace .entry)) .stores ⌝ }
 {
     pack_run(machine::run(program, start, budget, state, trace))
+}
+
+// The watches cross as they are: a slice of C structs. What is proved of the call is proved by hand, as in `watch`.
+#[no_mangle]
+pub extern "C" fn dualrail_run_watched(
+    program: &[u16],
+    start: u16,
+    budget: u16,
+    state: &mut [u8],
+    trace: &mut [u16],
+    watches: &mut [Watch],
+) -> u64
+    ensures { λ r. ⌜ (r ≡ packedRun (watchOutcome (now (program .entry)) start budget (now (state .entry)) (now (trace .entry)) (now (watches .entry)) .run .answer)) × (now (state .exit) ∷ now (trace .exit) ∷ [] ≡ watchOutcome (now (program .entry)) start budget (now (state .entry)) (now (trace .entry)) (now (watches .entry)) .run .stores) × (now (watches .exit) ≡ watchOutcome (now (program .entry)) start budget (now (state .entry)) (now (trace .entry)) (now (watches .entry)) .watches) ⌝ }
+{
+    let answer = watch::run_watched(program, start, budget, state, trace, watches);
+    pack_run(answer)
 }
 
 fn pack_verdict(verdict: Verdict) -> u64

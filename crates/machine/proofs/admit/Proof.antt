@@ -1,7 +1,6 @@
 -- `machine::admit` meets its contract: each refusal, and the count. The check of a program answers a count or a refusal alone.
 -- Assumes nothing.
 use mathlib.Core.Path.{_∙_}
-use native.Mathlib.Omega.{arith}
 use borrow.Author.Needs.{needs}
 use Rattle.model.proofs.CheckAnswers.{count-told}
 use Rattle.machine.proofs.Outcomes.{no-program, no-state, no-room, admits}

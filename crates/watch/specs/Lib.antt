@@ -1,0 +1,3 @@
+pub mod Watches
+pub mod Claims
+pub mod Turns
