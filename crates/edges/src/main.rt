@@ -1,8 +1,8 @@
 // The section Edges of document 01, the walk on sets of request 01, the shift counts of request 02, the public bits of request 03, the
 // layouts of request 04, the listings of jumps of request 05, the moves of request 06, the address bus of request 07, the published spelling of
-// request 08, and an input for every refusal: runs the cases of the file `stdin` beside src/, prints `ok` or `WRONG` and the name of each, and
-// the gate holds that to the file `stdout`. The cases are data, read beside the paper, and more cost no proof; notation.rt has how they are
-// written. All here is proved safe and ending; that the answers are right is the contract of what it calls.
+// request 08, the watches of request 09, and an input for every refusal: runs the cases of the file `stdin` beside src/, prints `ok` or `WRONG`
+// and the name of each, and the gate holds that to the file `stdout`. The cases are data, read beside the paper, and more cost no proof;
+// notation.rt has how they are written. All here is proved safe and ending; that the answers are right is the contract of what it calls.
 ghost use Prim.Native.Nat.{_≤_};
 ghost use lib.ListN.{length};
 use crate::notation::BEFORE;
@@ -16,6 +16,7 @@ use crate::notation::first;
 use crate::notation::head;
 use crate::notation::is_number;
 use crate::notation::is_right;
+use crate::notation::is_seen;
 use crate::notation::is_text;
 use crate::notation::is_verdict;
 use crate::notation::layout;
@@ -24,6 +25,7 @@ use crate::notation::put;
 use crate::notation::put_sets;
 use crate::notation::size;
 use crate::notation::tail;
+use crate::notation::watched;
 use model::Answer;
 use model::LINE_WIDTH;
 use model::MAX_LINES;
@@ -115,6 +117,25 @@ fn runs(line: &[u8], program: &[u16], state: &mut [u8], trace: &mut [u16]) -> bo
         &mut trace[0..room],
     );
     is_right(line, answer, state, trace)
+}
+
+// A run that watches the places behind the name of its call.
+fn debugs(line: &[u8], program: &[u16], state: &mut [u8], trace: &mut [u16]) -> bool {
+    let start = size(line, 0, LARGEST) as u16;
+    let budget = size(line, 1, LARGEST) as u16;
+    let bytes = size(line, 2, state.len());
+    let room = size(line, 3, trace.len());
+    let seen = watch::watch_places(
+        program,
+        start,
+        budget,
+        &mut state[0..bytes],
+        &mut trace[0..room],
+        watched(line),
+    );
+    let answer = seen.answer;
+    let watches = seen.watches;
+    is_right(line, answer, state, trace) & is_seen(line, watches)
 }
 
 // Each function that takes a program gives the answer, as it does for a program that it refuses.
@@ -251,6 +272,7 @@ fn comes_out_on(
         b'e' => expands(line, program, bytes, numbers),
         b'a' => all_refuse(line, program, state, bytes, numbers),
         b'm' => runs(line, program, state, numbers),
+        b'd' => debugs(line, program, state, numbers),
         b't' => runs_image(line, program, state, bytes, numbers),
         b'i' => makes_image(line, state, bytes),
         b'b' => makes_bits(line, state, bytes),

@@ -6,6 +6,8 @@ use model::Answer;
 use model::STATE_SIZE;
 use sets::SETS_SIZE;
 use sets::Verdict;
+use watch::MAX_WATCHES;
+use watch::Watch;
 
 // The fields of a case, in their order.
 pub(super) const NAME: usize = 0;
@@ -124,6 +126,24 @@ pub(super) fn size(line: &[u8], n: usize, most: usize) -> usize
     ensures { λ r. ⌜ r ≤ most ⌝ }
 {
     least(decimal(part(field(line, NUMBERS), n, b' ')), most)
+}
+
+// The places that a run watches, behind the name of its call; 0, which is r0, where there is none.
+fn place_watched(line: &[u8], n: usize) -> u16 {
+    least(decimal(part(field(line, CALL), n, b' ')), LARGEST) as u16
+}
+
+pub(super) fn watched(line: &[u8]) -> [u16; MAX_WATCHES] {
+    [
+        place_watched(line, 1),
+        place_watched(line, 2),
+        place_watched(line, 3),
+        place_watched(line, 4),
+        place_watched(line, 5),
+        place_watched(line, 6),
+        place_watched(line, 7),
+        place_watched(line, 8),
+    ]
 }
 
 // ---- memory: `r4=200`, `@5=7` and `b78=9` say what a byte holds, `7=1` what a number holds
@@ -344,6 +364,30 @@ pub(super) fn is_text(line: &[u8], bytes: &[u8]) -> bool {
 // Whether a call gave the answer of its case, and left what the case says.
 pub(super) fn is_right(line: &[u8], answer: Answer, bytes: &[u8], numbers: &[u16]) -> bool {
     is_told(as_told(answer), field(line, ANSWER)) && holds(field(line, AFTER), bytes, numbers)
+}
+
+// Whether a watch holds what is said of it, its place aside: value, writes and step. Nothing said is right.
+fn is_noted(watch: Watch, expected: &[u8]) -> bool {
+    if expected.len() == 0 {
+        return true;
+    }
+    (watch.value as usize) == decimal(part(expected, 0, b' '))
+        && (watch.writes as usize) == decimal(part(expected, 1, b' '))
+        && (watch.step as usize) == decimal(part(expected, 2, b' '))
+}
+
+// Whether the watches hold what the text of a case says of each, with commas between.
+pub(super) fn is_seen(line: &[u8], watches: [Watch; MAX_WATCHES]) -> bool {
+    let text = field(line, TEXT);
+    let front = is_noted(watches[0], part(text, 0, b','))
+        & is_noted(watches[1], part(text, 1, b','))
+        & is_noted(watches[2], part(text, 2, b','))
+        & is_noted(watches[3], part(text, 3, b','));
+    let back = is_noted(watches[4], part(text, 4, b','))
+        & is_noted(watches[5], part(text, 5, b','))
+        & is_noted(watches[6], part(text, 6, b','))
+        & is_noted(watches[7], part(text, 7, b','));
+    front & back
 }
 
 // Whether a walk gave the verdict of its case.
