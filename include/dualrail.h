@@ -12,11 +12,11 @@
  * with one between. An expansion runs on images of its own layout; nothing in the 544 bytes names it but the codes. Other numbers are
  * refused with 23 at line 0, before all else.
  *
- * An answer is one number. Of all functions but the last two: number * 2^32 + value, where number 0 is success and value its count, and
+ * An answer is one number. Of all functions but the last three: number * 2^32 + value, where number 0 is success and value its count, and
  * any other number is a refusal and value its line; a line beyond 2^32 - 1, which a published text may have, is given as 2^32 - 1. Of
- * dualrail_run and dualrail_judge: ending * 2^32 + counter * 2^16 + steps, ending 0 halted or balanced, 1 spent and 2 a leak, with its line
- * for the counter, or, refused, number * 2^48 + line. A refusal leaves all lent memory as it was, except that a refused reading leaves the
- * lines before the bad one in the store.
+ * dualrail_run, dualrail_run_watched and dualrail_judge: ending * 2^32 + counter * 2^16 + steps, ending 0 halted or balanced, 1 spent and 2 a
+ * leak, with its line for the counter, or, refused, number * 2^48 + line. A refusal leaves all lent memory as it was, except that a refused
+ * reading leaves the lines before the bad one in the store.
  */
 #ifndef DUALRAIL_H
 #define DUALRAIL_H
@@ -65,6 +65,28 @@ uint64_t dualrail_send_out(const uint8_t *text, size_t text_length, uint8_t *out
  * Refusals 7, 3 to 6, 18, 20. */
 uint64_t dualrail_run(const uint16_t *program, size_t program_length, uint16_t start, uint16_t budget, uint8_t *state,
                       size_t state_length, uint16_t *trace, size_t trace_length);
+
+/* A watch names a place of the state: register N, or 32 + n for cell n. After a run it holds the place's value, also where no write reached it,
+ * how many writes reached it, one of the same value too, and the step of the last: 0 for none, the first step is 1. */
+typedef struct {
+    uint16_t place;
+    uint8_t value;
+    uint16_t writes;
+    uint16_t step;
+} dualrail_watch;
+
+/* A run with up to eight watches: answer, state and trace are those of dualrail_run. Two watches may name one place; what they held before,
+ * their place aside, does not matter. Refusals 7, 3 to 6, 18, 20, then 26 at line 0: more than eight watches or a place above 543.
+ *
+ * Which step last wrote the ciphertext's first cell, cell 128, and which the round counter r4? (examples/watch.c is the whole program)
+ *
+ *     dualrail_watch watches[2] = {{.place = 32 + 128}, {.place = 4}};
+ *     uint64_t answer = dualrail_run_watched(program, length, 0, 65535, state, 544, trace, 9 * 65535, watches, 2);
+ *     if (answer >> 48 == 0) printf("%u %u\n", watches[0].step, watches[1].step);      // 14420 14682
+ */
+uint64_t dualrail_run_watched(const uint16_t *program, size_t program_length, uint16_t start, uint16_t budget, uint8_t *state,
+                              size_t state_length, uint16_t *trace, size_t trace_length, dualrail_watch *watches,
+                              size_t watches_length);
 
 /* Walks a stored program from line 0 on sets of values: balanced or spent says that all runs from values of the sets have equal traces
  * with that budget and end so, a leak gives the first line where two choices show different rows. The sets are only read. Refusals 7,

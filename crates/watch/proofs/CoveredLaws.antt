@@ -1,6 +1,6 @@
 -- What the functions on plain values give: what is asked before a run, one watch, one turn, eight watches.
 -- Assumes nothing.
-use mathlib.Core.Path.{_≡_, refl, ap, _∙_}
+use mathlib.Core.Path.{_≡_, refl, sym, ap, _∙_}
 use mathlib.Core.Bool.{Bool, true, false}
 use mathlib.Core.List.{List, [], _∷_, map}
 use mathlib.Core.Logic.{inl, inr}
@@ -71,8 +71,8 @@ module _ (s : State) (q k : ℕ) (w : Watch) where
   pub fresh : (v : ℕ) → k ≡ 0 → v ≡ getD s (w .place) 0 → watch (w .place) v 0 0 ≡ noted s q k w
   fresh v h e = rw (eq-eqb k 0 h, e)
 
-  pub reached : (v n : ℕ) → (k ≡ 0 → ⊥) → w .place ≡ q → v ≡ getD s (w .place) 0 → n ≡ (w .writes + 1) % 2 ^ 16 → watch (w .place) v n k ≡ noted s q k w
-  reached v n h i e f = rw (ne-eqb k 0 h, eq-eqb (w .place) q i, e, f)
+  pub reached : (v n : ℕ) → (k ≡ 0 → ⊥) → w .place ≡ q → v ≡ getD s q 0 → n ≡ (w .writes + 1) % 2 ^ 16 → watch (w .place) v n k ≡ noted s q k w
+  reached v n h i e f = rw (ne-eqb k 0 h, eq-eqb (w .place) q i, e ∙ ap (λ (j : ℕ). getD s j 0) (sym i), f)
 
   pub passed : (k ≡ 0 → ⊥) → (w .place ≡ q → ⊥) → w ≡ noted s q k w
   passed h i = rw (ne-eqb k 0 h, ne-eqb (w .place) q i)

@@ -48,7 +48,7 @@ fn noted(w: Watch, state: &[u8], place: usize, step: u16) -> Watch
     if at == place {
         return Watch {
             place: w.place,
-            value: machine::read(state, at),
+            value: machine::read(state, place),
             writes: std::num::wrapping_add_u16(w.writes, 1),
             step,
         };
