@@ -5,3 +5,4 @@ pub mod Product
 pub mod Loops
 pub mod Traces
 pub mod Outcomes
+pub mod Performed

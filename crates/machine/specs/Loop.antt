@@ -21,6 +21,7 @@ use Rattle.machine.specs.declared.Effect.{Effect}
 use Rattle.machine.specs.declared.Fetched.{Fetched}
 use Rattle.machine.specs.declared.OnBus.{OnBus}
 use Rattle.machine.specs.declared.steps.Run.{Run}
+use Rattle.machine.specs.declared.steps.Stepped.{Stepped}
 
 -- what an operand reads, and its place
 abbrev pub fetchOf : Operand → State → Fetched
@@ -110,6 +111,10 @@ pub record Machine : Type 0 where
 
 abbrev pub machine : Run → State → List ℕ → Machine
 machine r s t = record { run = r; state = s; trace = t }
+
+-- the run of what a step that tells its place hands back
+abbrev pub runOf : Stepped → Run
+runOf x = record { counter = x .counter; steps = x .steps; bus = x .bus }
 
 -- one step of a line
 unfoldable pub stepBy : Line → Machine → Machine

@@ -521,6 +521,54 @@ fn perform(
     }
 }
 
+// What a step answers that tells the written place too, past the state where there is none.
+struct Seen {
+    next: u16,
+    bus: u16,
+    place: usize,
+    row: [u16; ROW_WIDTH],
+}
+
+// The same as `perform`, and the written place. It is not the same function: one of this size is joined to a loop only where it is called a
+// single time, and a run whose steps are calls takes half as long again.
+fn perform_seen(
+    m: u16,
+    o: u16,
+    d: u16,
+    a: u16,
+    b: u16,
+    t: u16,
+    counter: u16,
+    bus: u16,
+    masks: &[u8; PLACES],
+    weights: &[u16; PLACES],
+    state: &mut [u8],
+) -> Seen
+    requires { ⌜ (counter < 65535) × Masks (now masks) × Weights (now weights) × (bus < addresses) ⌝ }
+    ensures { λ r. ⌜ (r .next ≡ next (lineOf m o d a b t) counter (now (state .entry))) × (r .row ≡ row (lineOf m o d a b t) counter (now (state .entry)) bus) ⌝ }
+    ensures { λ r. ⌜ (r .bus ≡ busAfter (lineOf m o d a b t) (now (state .entry)) bus) × (r .bus < addresses) ⌝ }
+    ensures { λ r. ⌜ (now (state .exit) ≡ after (lineOf m o d a b t) (now (state .entry))) × (r .place ≡ place (operandOf d) (now (state .entry))) ⌝ }
+{
+    let mark = coding::mark_of(m);
+    let x = fetch(a, state);
+    let first = put_on_bus(a, x.at, bus, weights);
+    let y = fetch(b, state);
+    let second = put_on_bus(b, y.at, first.bus, weights);
+    let args = mask_arguments(mark, x, y, masks);
+    let result = alu(mark, o, args.first, args.second);
+    let jumps = is_taken(o, args.first, args.second);
+    let next = advanced(jumps, target_line(t), counter);
+    let r = replace(d, result, state);
+    let destination = put_on_bus(d, r.at, second.bus, weights);
+    let row = row_of(counter, r.old, result, first, second, destination, weights);
+    Seen {
+        next,
+        bus: destination.bus,
+        place: r.at,
+        row,
+    }
+}
+
 // The numbers of row n.
 fn write_row(trace: &mut [u16], n: usize, row: [u16; ROW_WIDTH])
     requires { ⌜ rowWidth * n + rowWidth ≤ length (now trace) ⌝ }

@@ -3,13 +3,23 @@ ghost use mathlib.Core.Path.{_≡_};
 ghost use Prim.Native.Nat.{_+_, _*_, _≤_, _<_};
 ghost use lib.ListN.{length};
 ghost use Rattle.model.specs.Limits.{rowWidth};
-ghost use Rattle.machine.specs.Loop.{addresses, Masks, Weights, machine, stepOf};
+ghost use Rattle.model.specs.Places.{place};
+ghost use Rattle.model.specs.Stored.{lineAt};
+ghost use Rattle.machine.specs.Loop.{addresses, Masks, Weights, machine, runOf, stepOf};
 use super::PLACES;
 
 pub struct Run {
     pub counter: u16,
     pub steps: u16,
     pub bus: u16,
+}
+
+// A run after a step, and the place that the step wrote, past the state where it wrote none.
+pub struct Stepped {
+    pub counter: u16,
+    pub steps: u16,
+    pub bus: u16,
+    pub place: usize,
 }
 
 impl Run {
@@ -49,6 +59,46 @@ impl Run {
             counter: done.next,
             steps: steps + 1,
             bus: done.bus,
+        }
+    }
+
+    // The same step, and the place that it writes.
+    pub fn step_seen(
+        self,
+        program: &[u16],
+        masks: &[u8; PLACES],
+        weights: &[u16; PLACES],
+        state: &mut [u8],
+        trace: &mut [u16],
+    ) -> Stepped
+        requires { ⌜ Masks (now masks) × Weights (now weights) × (self .counter < 65535) × (self .steps < 65535) × (self .bus < addresses) × (rowWidth * self .steps + rowWidth ≤ length (now trace)) ⌝ }
+        ensures { λ r. ⌜ machine (runOf r) (now (state .exit)) (now (trace .exit)) ≡ stepOf (now (program .entry)) (machine self (now (state .entry)) (now (trace .entry))) ⌝ }
+        ensures { λ r. ⌜ (r .bus < addresses) × (r .place ≡ place (lineAt (now (program .entry)) (self .counter) .destination) (now (state .entry))) ⌝ }
+    {
+        let counter = self.counter;
+        let steps = self.steps;
+        let bus = self.bus;
+        let n = coding::numbers_at(program, counter as usize);
+        let done = super::perform_seen(
+            n[0],
+            n[1],
+            n[2],
+            n[3],
+            n[4],
+            n[5],
+            counter,
+            bus,
+            masks,
+            weights,
+            state,
+        );
+        let row = done.row;
+        super::write_row(trace, steps as usize, row);
+        Stepped {
+            counter: done.next,
+            steps: steps + 1,
+            bus: done.bus,
+            place: done.place,
         }
     }
 }

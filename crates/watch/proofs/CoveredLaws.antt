@@ -1,11 +1,12 @@
 -- What the functions on plain values give: what is asked before a run, one watch, one turn, eight watches.
 -- Assumes nothing.
 use mathlib.Core.Path.{_≡_, refl, sym, ap, _∙_}
-use mathlib.Core.Bool.{Bool, true, false}
+use mathlib.Core.Bool.{Bool, true, false, cond, _||_}
 use mathlib.Core.List.{List, [], _∷_, map}
 use mathlib.Core.Logic.{inl, inr}
 use Prim.Native.Nat.{ℕ, _+_, _%_, _^_, _<_, _≤_}
 use native.Mathlib.Omega.{arith}
+use lib.Dec.{eqb}
 use lib.ListN.{length, getD}
 use borrow.Author.Tests.{eq-eqb, ne-eqb, lt-ltb, le-ltb, le-leb, lt-leb}
 use Rattle.model.specs.declared.Answer.{Answer}
@@ -13,16 +14,15 @@ use Rattle.model.specs.declared.Answer.the-variants.{Count, Halted, Spent, Refu
 use Rattle.model.specs.Limits.{stateSize}
 use Rattle.model.specs.Answers.{report, counted, halted, spent, refused}
 use Rattle.model.specs.Places.{State, place}
-use Rattle.model.specs.Stored.{operandOf}
+use Rattle.model.specs.Stored.{lineAt}
 use Rattle.model.proofs.CheckAnswers.{NoCount, no-count-refuses}
-use Rattle.coding.specs.Fields.{numbersAt}
-use Rattle.machine.specs.declared.steps.Run.{Run}
-use Rattle.machine.specs.Loop.{Machine, machine, stepOf, admission as runAdmission}
+use Rattle.machine.specs.declared.steps.Stepped.{Stepped}
+use Rattle.machine.specs.Loop.{Machine, machine, stepOf, runOf as steppedRun, admission as runAdmission}
 use Rattle.machine.proofs.Outcomes.{admission-answers, stops-there}
 use Rattle.watch.specs.declared.Watch.{Watch}
 use Rattle.watch.specs.declared.Turn.{Turn}
 use Rattle.watch.specs.Watches.{watch, unused}
-use Rattle.watch.specs.Turns.{noted, admission, turn, begun, moment, runOf, stood, turned, told}
+use Rattle.watch.specs.Turns.{noted, concerns, admission, turn, begun, moment, runOf, stood, turned, told}
 
 -- ---- what is asked before a run
 
@@ -77,6 +77,15 @@ module _ (s : State) (q k : ℕ) (w : Watch) where
   pub passed : (k ≡ 0 → ⊥) → (w .place ≡ q → ⊥) → w ≡ noted s q k w
   passed h i = rw (ne-eqb k 0 h, ne-eqb (w .place) q i)
 
+-- a watch that a step does not concern stays as it is
+pub unconcerned : (s : State) (q k : ℕ) (w : Watch) → concerns q k w ≡ false → noted s q k w ≡ w
+unconcerned s q k w = by-step (eqb k 0) (eqb (w .place) q)
+  where
+    by-step : (t u : Bool) → (t || u) ≡ false → cond t (watch (w .place) (getD s (w .place) 0) 0 0) (cond u (watch (w .place) (getD s (w .place) 0) ((w .writes + 1) % 2 ^ 16) k) w) ≡ w
+    by-step true u e = absurd (let z : _≡_ {A = ℕ} 1 0 = ap (λ (b : Bool). cond b 1 0) e in omega arith)
+    by-step false true e = absurd (let z : _≡_ {A = ℕ} 1 0 = ap (λ (b : Bool). cond b 1 0) e in omega arith)
+    by-step false false e = refl
+
 -- ---- one turn
 
 module _ (p : List ℕ) (budget : ℕ) (t : Turn) (s : State) (tr : List ℕ) where
@@ -91,13 +100,12 @@ module _ (p : List ℕ) (budget : ℕ) (t : Turn) (s : State) (tr : List ℕ) wh
   unfolding turned
   spends h k = rw (lt-leb _ _ h, le-leb _ _ k)
 
-  pub steps : (n : List ℕ) (q : ℕ) (r : Run) (s′ tr′ : List ℕ) → t .counter < t .count → t .steps < budget → n ≡ numbersAt p (t .counter) → q ≡ place (operandOf (getD n 2 0)) s
-      → machine r s′ tr′ ≡ stepOf p (machine (runOf t) s tr) → moment (turn true (t .count) (r .counter) (r .steps) (r .bus) q) s′ tr′ ≡ turned p budget (moment t s tr)
+  pub steps : (r : Stepped) (s′ tr′ : List ℕ) → t .counter < t .count → t .steps < budget → r .place ≡ place (lineAt p (t .counter) .destination) s
+      → machine (steppedRun r) s′ tr′ ≡ stepOf p (machine (runOf t) s tr) → moment (turn true (t .count) (r .counter) (r .steps) (r .bus) (r .place)) s′ tr′ ≡ turned p budget (moment t s tr)
   unfolding turned
-  steps n q r s′ tr′ h k d e f =
+  steps r s′ tr′ h k e f =
       rw (lt-leb _ _ h, lt-leb _ _ k)
-      (ap (λ (x : Machine). stood (t .count) q x) f
-      ∙ ap (λ (y : ℕ). stood (t .count) y (stepOf p (machine (runOf t) s tr))) (e ∙ ap (λ (m : List ℕ). place (operandOf (getD m 2 0)) s) d))
+      (ap (λ (x : Machine). stood (t .count) (r .place) x) f ∙ ap (λ (y : ℕ). stood (t .count) y (stepOf p (machine (runOf t) s tr))) e)
 
 -- ---- eight watches
 

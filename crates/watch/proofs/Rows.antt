@@ -1,6 +1,6 @@
 -- The list of watches as a loop goes through it: what it is, and what was found, after i turns.
 -- Assumes nothing.
-use mathlib.Core.Path.{_≡_, refl, ap, _∙_}
+use mathlib.Core.Path.{_≡_, refl, sym, ap, _∙_}
 use mathlib.Core.Bool.{Bool, true, false, _||_}
 use mathlib.Core.List.{List, [], _∷_, map}
 use Prim.Native.Nat.{ℕ, zero, suc, _+_, _<_}
@@ -34,6 +34,12 @@ module _ (f : Watch → Watch) where
   upto-next i [] l = absurd (not-suc-le-zero l)
   upto-next zero (w ∷ ws) l = refl
   upto-next (suc i) (w ∷ ws) l = ap (λ (us : List Watch). f w ∷ us) (upto-next i ws (le-of-suc-le-suc l))
+
+  -- a watch that stays as it is
+  pub upto-same : (i : ℕ) (ws : List Watch) → i < length ws → f (getD (upto i ws) i nowhere) ≡ getD (upto i ws) i nowhere → upto i ws ≡ upto (suc i) ws
+  upto-same i [] l e = absurd (not-suc-le-zero l)
+  upto-same zero (w ∷ ws) l e = ap (λ (u : Watch). u ∷ ws) (sym e)
+  upto-same (suc i) (w ∷ ws) l e = ap (λ (us : List Watch). f w ∷ us) (upto-same i ws (le-of-suc-le-suc l) e)
 
   pub upto-all : (ws : List Watch) → upto (length ws) ws ≡ map f ws
   upto-all [] = refl

@@ -11,7 +11,7 @@ ghost use Rattle.model.specs.Limits.{maxLines, rowWidth, stateSize};
 ghost use Rattle.model.specs.Answers.{report, outcome};
 ghost use Rattle.machine.specs.Loop.{addresses, Masks, Weights};
 ghost use Rattle.watch.specs.Watches.{maxWatches, unused, unwatchable, both, watchOutcome};
-ghost use Rattle.watch.specs.Turns.{noted, admission, begun, moment, turned, told};
+ghost use Rattle.watch.specs.Turns.{noted, concerns, admission, begun, moment, turned, told};
 use machine::PLACES;
 use machine::steps::Run;
 use model::Answer;
@@ -56,13 +56,23 @@ fn noted(w: Watch, state: &[u8], place: usize, step: u16) -> Watch
     w
 }
 
+// Whether `noted` changes the watch. Most steps concern none, and asking first is quicker than writing each watch again.
+fn concerns(w: Watch, place: usize, step: u16) -> bool
+    ensures { λ r. ⌜ r ≡ concerns place step w ⌝ }
+{
+    step == 0 || (w.place as usize) == place
+}
+
 // Every watch.
 fn note(watches: &mut [Watch], state: &[u8], place: usize, step: u16)
     ensures { λ _. ⌜ now (watches .exit) ≡ map (noted (now (state .entry)) place step) (now (watches .entry)) ⌝ }
 {
     let mut i: usize = 0;
     while i < watches.len() {
-        watches[i] = noted(watches[i], state, place, step);
+        let w = watches[i];
+        if concerns(w, place, step) {
+            watches[i] = noted(w, state, place, step);
+        }
         i = i + 1;
     }
 }
@@ -144,7 +154,7 @@ fn begun(checked: Answer, start: u16) -> Turn
     }
 }
 
-// One turn: a step, and the place that it writes, which is worked out before the write; at the end of the program or of the budget none.
+// One turn: a step, with the place that it writes; at the end of the program or of the budget none.
 fn turned(
     t: Turn,
     program: &[u16],
@@ -171,21 +181,19 @@ fn turned(
             place: t.place,
         };
     }
-    let n = coding::numbers_at(program, counter as usize);
-    let place = machine::place_at(n[2], state);
     let run = Run {
         counter,
         steps,
         bus,
     };
-    let next = run.step(program, masks, weights, state, trace);
+    let next = run.step_seen(program, masks, weights, state, trace);
     Turn {
         going: true,
         count,
         counter: next.counter,
         steps: next.steps,
         bus: next.bus,
-        place,
+        place: next.place,
     }
 }
 

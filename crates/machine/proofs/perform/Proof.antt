@@ -1,39 +1,12 @@
 -- `machine::perform` meets its contract: the parts of a step from what each call gives. Assumes nothing.
-use mathlib.Core.Path.{_≡_, refl}
-use mathlib.Core.Bool.{Bool, cond}
-use mathlib.Core.List.{List}
-use Prim.Native.Nat.{ℕ, suc}
-use lib.ListN.{getD, set}
+use mathlib.Core.Path.{refl}
 use borrow.Author.Needs.{needs}
-use Rattle.model.specs.declared.Mark.{Mark}
-use Rattle.model.specs.declared.Opcode.{Opcode}
-use Rattle.model.specs.declared.Line.{Line}
-use Rattle.model.specs.Places.{State, place}
 use Rattle.model.specs.Stored.{opcodeOf, lineOf}
-use Rattle.model.specs.Step.{alu, taken, targetLine, result, next, after, busAfter, row}
-use Rattle.machine.specs.declared.Arguments.{Arguments}
-use Rattle.machine.specs.declared.Fetched.{Fetched}
-use Rattle.machine.specs.declared.OnBus.{OnBus}
-use Rattle.machine.specs.Loop.{fetchOf, argumentsOf, onBusAt, rowOf}
-use Rattle.machine.proofs.NamedPlaces.{place-most, fetched-most, cell-by, fetched-by, arguments-read}
-use Rattle.machine.proofs.RowsRead.{Stands, stands, row-read, bus-read}
+use Rattle.machine.proofs.NamedPlaces.{place-most, fetched-most, cell-by, fetched-by}
+use Rattle.machine.proofs.RowsRead.{stands}
+use Rattle.machine.proofs.Performed.{performed}
 use Rattle.machine.proofs.perform.Statement.{statement}
 use Rattle.machine.proofs.perform.Tie as tie
-
--- what a step answers and leaves, over plain values
-performed : (l : Line) (k : ℕ) (s s′ : State) (bus : ℕ) (m : Mark) (p : Opcode) (j : Bool) (x y : Fetched) (z : Arguments) (q g n r o : ℕ) (u v w : OnBus) (t : List ℕ)
-    → m ≡ l .mark → p ≡ l .opcode → x ≡ fetchOf (l .first) s → y ≡ fetchOf (l .second) s → z ≡ argumentsOf m x y
-    → r ≡ alu m p (z .first) (z .second) → j ≡ taken p (z .first) (z .second) → g ≡ targetLine (l .target) → n ≡ cond j g (suc k)
-    → q ≡ place (l .destination) s → o ≡ getD s q 0 → s′ ≡ set s q r → Stands (l .first) s → Stands (l .second) s → Stands (l .destination) s
-    → u ≡ onBusAt (x .at) bus → v ≡ onBusAt (y .at) (u .bus) → w ≡ onBusAt q (v .bus) → t ≡ rowOf k o r u v w
-    → (n ≡ next l k s) × (t ≡ row l k s bus) × (w .bus ≡ busAfter l s bus) × (s′ ≡ after l s)
-unfolding next after result
-performed l k s s′ bus m p j x y z q g n r o u v w t em ep ex ey ez er ej eg en eq eo es ax ay aq eu ev ew et =
-    let ab = arguments-read m (l .first) (l .second) s x y z ex ey ez in
-    let a = ab .0 in
-    let b = ab .1 in
-    let is : r ≡ result l s = cc in
-    (cc, row-read l k s bus x y q r o u v w t ex ey eq eo is ax ay aq eu ev ew et, bus-read l k s bus x y q r o u v w t ex ey eq eo is ax ay aq eu ev ew, cc)
 
 mark-of-requires : tie.Need-mark-of-requires
 mark-of-requires c κs = search needs

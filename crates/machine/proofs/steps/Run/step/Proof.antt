@@ -1,29 +1,10 @@
 -- `machine::steps::Run::step` meets its contract: the numbers of the line at the counter, what it does, and its row in the store.
 -- Assumes nothing.
-use mathlib.Core.Path.{_≡_}
-use mathlib.Core.List.{List}
-use Prim.Native.Nat.{ℕ, _+_}
-use lib.ListN.{getD}
 use borrow.Author.Needs.{needs}
-use Rattle.model.specs.declared.Line.{Line}
-use Rattle.model.specs.Places.{State}
-use Rattle.model.specs.Stored.{lineOf, lineAt}
-use Rattle.model.specs.Step.{Row, next, after, busAfter, row}
-use Rattle.coding.specs.Fields.{numbersAt}
-use Rattle.machine.specs.declared.steps.Run.{Run}
-use Rattle.machine.specs.Loop.{machine, putRow, stepBy}
+use Rattle.model.specs.Stored.{lineAt}
+use Rattle.machine.proofs.Performed.{same-line, one-step}
 use Rattle.machine.proofs.steps.Run.step.Statement.{statement}
 use Rattle.machine.proofs.steps.Run.step.Tie as tie
-
--- the line of the six numbers at a line
-same-line : (n p : List ℕ) (i : ℕ) → n ≡ numbersAt p i → lineOf (getD n 0 0) (getD n 1 0) (getD n 2 0) (getD n 3 0) (getD n 4 0) (getD n 5 0) ≡ lineAt p i
-same-line n p i e = rw e
-
--- a step, over plain values
-one-step : (l l′ : Line) (r : Run) (s s′ : State) (t t′ : List ℕ) (n b : ℕ) (w : Row) → l ≡ l′ → n ≡ next l (r .counter) s → w ≡ row l (r .counter) s (r .bus)
-    → b ≡ busAfter l s (r .bus) → s′ ≡ after l s → t′ ≡ putRow t (r .steps) w → machine (record { counter = n; steps = r .steps + 1; bus = b }) s′ t′ ≡ stepBy l′ (machine r s t)
-unfolding stepBy
-one-step l l′ r s s′ t t′ n b w el en ew eb es et = cc
 
 cast-numbers-at : tie.Need-cast-numbers-at
 cast-numbers-at c = search needs
