@@ -14,7 +14,7 @@ use Rattle.model.specs.declared.Answer.the-variants.{Count, Halted, Spent, Refu
 use Rattle.model.specs.Limits.{stateSize}
 use Rattle.model.specs.Answers.{report, counted, halted, spent, refused}
 use Rattle.model.specs.Places.{State, place}
-use Rattle.model.specs.Stored.{lineAt}
+use Rattle.model.specs.Stored.{lineAt, lineCount}
 use Rattle.model.proofs.CheckAnswers.{NoCount, no-count-refuses}
 use Rattle.machine.specs.declared.steps.Stepped.{Stepped}
 use Rattle.machine.specs.Loop.{Machine, machine, stepOf, runOf as steppedRun, admission as runAdmission}
@@ -46,7 +46,7 @@ never-counts n (inl e) = omega arith
 never-counts n (inr (inl e)) = omega arith
 never-counts n (inr (inr e)) = omega arith
 
-pub not-begun : (a : Answer) (start : ℕ) → NoCount a → turn false 0 start 0 0 stateSize ≡ begun a start
+pub not-begun : (a : Answer) (start : ℕ) → NoCount a → turn false start 0 0 stateSize ≡ begun a start
 not-begun (Count n) start h = absurd (never-counts n h)
 not-begun (Halted c k) start h = refl
 not-begun (Spent c k) start h = refl
@@ -59,10 +59,10 @@ handed-on (Spent c k) t h = refl
 handed-on (Refused k l) t h = refl
 
 module _ (a : Answer) (t : Turn) (n : ℕ) (e : a ≡ Count n) where
-  pub says-spent : t .counter < t .count → spent (t .counter) (t .steps) ≡ told a t
+  pub says-spent : t .counter < n → spent (t .counter) (t .steps) ≡ told a t
   says-spent h = rw (e, lt-ltb _ _ h)
 
-  pub says-halted : t .count ≤ t .counter → halted (t .counter) (t .steps) ≡ told a t
+  pub says-halted : n ≤ t .counter → halted (t .counter) (t .steps) ≡ told a t
   says-halted h = rw (e, le-ltb _ _ h)
 
 -- ---- one watch
@@ -90,22 +90,22 @@ unconcerned s q k w = by-step (eqb k 0) (eqb (w .place) q)
 
 module _ (p : List ℕ) (budget : ℕ) (t : Turn) (s : State) (tr : List ℕ) where
   abbrev pub Ends : Type 0
-  Ends = moment (turn false (t .count) (t .counter) (t .steps) (t .bus) (t .place)) s tr ≡ turned p budget (moment t s tr)
+  Ends = moment (turn false (t .counter) (t .steps) (t .bus) (t .place)) s tr ≡ turned p budget (moment t s tr)
 
-  pub halts : t .count ≤ t .counter → Ends
+  pub halts : lineCount p ≤ t .counter → Ends
   unfolding turned
   halts h = rw (le-leb _ _ h)
 
-  pub spends : t .counter < t .count → budget ≤ t .steps → Ends
+  pub spends : t .counter < lineCount p → budget ≤ t .steps → Ends
   unfolding turned
   spends h k = rw (lt-leb _ _ h, le-leb _ _ k)
 
-  pub steps : (r : Stepped) (s′ tr′ : List ℕ) → t .counter < t .count → t .steps < budget → r .place ≡ place (lineAt p (t .counter) .destination) s
-      → machine (steppedRun r) s′ tr′ ≡ stepOf p (machine (runOf t) s tr) → moment (turn true (t .count) (r .counter) (r .steps) (r .bus) (r .place)) s′ tr′ ≡ turned p budget (moment t s tr)
+  pub steps : (r : Stepped) (s′ tr′ : List ℕ) → t .counter < lineCount p → t .steps < budget → r .place ≡ place (lineAt p (t .counter) .destination) s
+      → machine (steppedRun r) s′ tr′ ≡ stepOf p (machine (runOf t) s tr) → moment (turn true (r .counter) (r .steps) (r .bus) (r .place)) s′ tr′ ≡ turned p budget (moment t s tr)
   unfolding turned
   steps r s′ tr′ h k e f =
       rw (lt-leb _ _ h, lt-leb _ _ k)
-      (ap (λ (x : Machine). stood (t .count) (r .place) x) f ∙ ap (λ (y : ℕ). stood (t .count) y (stepOf p (machine (runOf t) s tr))) e)
+      (ap (λ (x : Machine). stood (r .place) x) f ∙ ap (λ (y : ℕ). stood y (stepOf p (machine (runOf t) s tr))) e)
 
 -- ---- eight watches
 

@@ -124,7 +124,6 @@ module _ (p : List ℕ) (start budget : ℕ) (s₀ t₀ : List ℕ) (ws₀ : Lis
     pub js : List ℕ
     pub on : t .going ≡ true
     pub asked : checked ≡ Count (lineCount p)
-    pub count : t .count ≡ lineCount p
     pub few : lineCount p ≤ maxLines
     pub tally : t .steps ≡ length js
     pub within : t .steps ≤ budget
@@ -155,7 +154,6 @@ module _ (p : List ℕ) (start budget : ℕ) (s₀ t₀ : List ℕ) (ws₀ : Lis
             js = [];
             on = refl;
             asked = a ∙ ap (λ (m : ℕ). Count m) (x .count);
-            count = x .count;
             few = omega (arith, x .few, x .count);
             tally = refl;
             within = omega arith;
@@ -189,7 +187,7 @@ module _ (p : List ℕ) (start budget : ℕ) (s₀ t₀ : List ℕ) (ws₀ : Lis
     Next m′ = length (m′ .trace) ≡ length tr → Stands (m′ .turn .going) (m′ .turn) (m′ .state) (m′ .trace) ws′ × (fuel budget (m′ .turn) < fuel budget t)
 
     -- an end: nothing is left to write
-    ends-by : (vs : List ℕ) → ending t ≡ done vs → outcome (done vs) (s ∷ tr ∷ []) ≡ runOutcome p start budget s₀ t₀ → placesWritten (lines p) (budget - t .steps) (t .counter) s ≡ []
+    ends-by : (vs : List ℕ) → ending (lineCount p) t ≡ done vs → outcome (done vs) (s ∷ tr ∷ []) ≡ runOutcome p start budget s₀ t₀ → placesWritten (lines p) (budget - t .steps) (t .counter) s ≡ []
         → runOn (lines p) (budget - t .steps) (t .counter) s (t .bus) .state ≡ s → Next (ended m)
     ends-by vs h e none-left stays _ =
         let js-all = append-nil (i .js) ∙ ap (λ (u : List ℕ). i .js ++ u) (sym none-left) ∙ i .places in
@@ -202,7 +200,7 @@ module _ (p : List ℕ) (start budget : ℕ) (s₀ t₀ : List ℕ) (ws₀ : Lis
 
     halted-next : lineCount p ≤ t .counter → Next (ended m)
     halted-next h =
-        ends-by (0 ∷ t .counter ∷ t .steps ∷ []) (rw (le-ltb (t .counter) (t .count) (omega (arith, h, i .count))))
+        ends-by (0 ∷ t .counter ∷ t .steps ∷ []) (rw (le-ltb (t .counter) (lineCount p) h))
         (sym (halts p (lineCount p) (budget - t .steps) (machine (runOf t) s tr) h) ∙ i .rest)
         (none-written (lines p) (budget - t .steps) (t .counter) s (no-line p (t .counter) h))
         (ap (λ (x : Ran). x .state) (stopped (lines p) (t .counter) s (t .bus) (no-line p (t .counter) h) (budget - t .steps)))
@@ -211,7 +209,7 @@ module _ (p : List ℕ) (start budget : ℕ) (s₀ t₀ : List ℕ) (ws₀ : Lis
     unfolding placesWritten
     spent-next h k =
         let z : budget - t .steps ≡ 0 = omega (arith, k) in
-        ends-by (1 ∷ t .counter ∷ t .steps ∷ []) (rw (lt-ltb (t .counter) (t .count) (omega (arith, h, i .count))))
+        ends-by (1 ∷ t .counter ∷ t .steps ∷ []) (rw (lt-ltb (t .counter) (lineCount p) h))
         (sym (spends p (lineCount p) budget (machine (runOf t) s tr) h k) ∙ i .rest) (rw z) (rw z (ap (λ (x : Ran). x .state) (run-zero (lines p) (t .counter) s (t .bus))))
 
     step-next : t .counter < lineCount p → t .steps < budget → Next (stepped p m)
@@ -222,7 +220,6 @@ module _ (p : List ℕ) (start budget : ℕ) (s₀ t₀ : List ℕ) (ws₀ : Lis
             js = i .js ++ place (l .destination) s ∷ [];
             on = refl;
             asked = i .asked;
-            count = i .count;
             few = i .few;
             tally = omega (arith, i .tally, length-append (i .js) (place (l .destination) s ∷ []));
             within = omega (arith, k);
@@ -238,12 +235,12 @@ module _ (p : List ℕ) (start budget : ℕ) (s₀ t₀ : List ℕ) (ws₀ : Lis
 
     pub goes-to : (t′ : Turn) (s′ tr′ : List ℕ) → moment t′ s′ tr′ ≡ turned p budget m → length tr′ ≡ length tr → Stands (t′ .going) t′ s′ tr′ ws′ × (fuel budget t′ < fuel budget t)
     unfolding turned
-    goes-to t′ s′ tr′ e = subst Next (sym e) (by-end (leb (t .count) (t .counter)) refl)
+    goes-to t′ s′ tr′ e = subst Next (sym e) (by-end (leb (lineCount p) (t .counter)) refl)
       where
         by-budget : t .counter < lineCount p → (u : Bool) → leb budget (t .steps) ≡ u → Next (cond u (ended m) (stepped p m))
         by-budget h true f = spent-next h (leb-true _ _ f)
         by-budget h false f = step-next h (leb-false _ _ f)
 
-        by-end : (u : Bool) → leb (t .count) (t .counter) ≡ u → Next (cond (u || leb budget (t .steps)) (ended m) (stepped p m))
-        by-end true f = halted-next (omega (arith, leb-true (t .count) (t .counter) f, i .count))
-        by-end false f = by-budget (omega (arith, leb-false (t .count) (t .counter) f, i .count)) (leb budget (t .steps)) refl
+        by-end : (u : Bool) → leb (lineCount p) (t .counter) ≡ u → Next (cond (u || leb budget (t .steps)) (ended m) (stepped p m))
+        by-end true f = halted-next (leb-true (lineCount p) (t .counter) f)
+        by-end false f = by-budget (leb-false (lineCount p) (t .counter) f) (leb budget (t .steps)) refl

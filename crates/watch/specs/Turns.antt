@@ -10,7 +10,7 @@ use Rattle.model.specs.declared.Answer.the-variants.{Count, Halted, Spent, Refu
 use Rattle.model.specs.Limits.{stateSize}
 use Rattle.model.specs.Answers.{Report, halted, spent, refused, andThen}
 use Rattle.model.specs.Places.{State, place}
-use Rattle.model.specs.Stored.{lineAt}
+use Rattle.model.specs.Stored.{lineAt, lineCount}
 use Rattle.machine.specs.declared.steps.Run.{Run}
 use Rattle.machine.specs.Loop.{Machine, machine, stepOf, admission as runAdmission}
 use Rattle.watch.specs.declared.Watch.{Watch}
@@ -32,15 +32,15 @@ unfoldable pub admission : List ℕ → ℕ → ℕ → ℕ → Bool → Report
 unfolding runAdmission
 admission p budget size room wrong = andThen (runAdmission p budget size room) (cond wrong (refused 26 0) (runAdmission p budget size room))
 
-abbrev pub turn : Bool → ℕ → ℕ → ℕ → ℕ → ℕ → Turn
-turn going count counter steps bus place = record { going = going; count = count; counter = counter; steps = steps; bus = bus; place = place }
+abbrev pub turn : Bool → ℕ → ℕ → ℕ → ℕ → Turn
+turn going counter steps bus place = record { going = going; counter = counter; steps = steps; bus = bus; place = place }
 
 -- before the first step
 abbrev pub begun : Answer → ℕ → Turn
-begun (Count n) start = turn true n start 0 0 stateSize
-begun (Halted c k) start = turn false 0 start 0 0 stateSize
-begun (Spent c k) start = turn false 0 start 0 0 stateSize
-begun (Refused k l) start = turn false 0 start 0 0 stateSize
+begun (Count n) start = turn true start 0 0 stateSize
+begun (Halted c k) start = turn false start 0 0 stateSize
+begun (Spent c k) start = turn false start 0 0 stateSize
+begun (Refused k l) start = turn false start 0 0 stateSize
 
 -- where a watched run stands, its state and its trace store
 pub record Moment : Type 0 where
@@ -56,25 +56,25 @@ runOf t = record { counter = t .counter; steps = t .steps; bus = t .bus }
 
 -- the run has ended
 abbrev pub ended : Moment → Moment
-ended m = moment (turn false (m .turn .count) (m .turn .counter) (m .turn .steps) (m .turn .bus) (m .turn .place)) (m .state) (m .trace)
+ended m = moment (turn false (m .turn .counter) (m .turn .steps) (m .turn .bus) (m .turn .place)) (m .state) (m .trace)
 
 -- where it stands after a step that wrote place q
-abbrev pub stood : ℕ → ℕ → Machine → Moment
-stood n q x = moment (turn true n (x .run .counter) (x .run .steps) (x .run .bus) q) (x .state) (x .trace)
+abbrev pub stood : ℕ → Machine → Moment
+stood q x = moment (turn true (x .run .counter) (x .run .steps) (x .run .bus) q) (x .state) (x .trace)
 
 abbrev pub stepped : List ℕ → Moment → Moment
-stepped p m = stood (m .turn .count) (place (lineAt p (m .turn .counter) .destination) (m .state)) (stepOf p (machine (runOf (m .turn)) (m .state) (m .trace)))
+stepped p m = stood (place (lineAt p (m .turn .counter) .destination) (m .state)) (stepOf p (machine (runOf (m .turn)) (m .state) (m .trace)))
 
 -- one turn: the end, or a step
 unfoldable pub turned : List ℕ → ℕ → Moment → Moment
-turned p budget m = cond (leb (m .turn .count) (m .turn .counter) || leb budget (m .turn .steps)) (ended m) (stepped p m)
+turned p budget m = cond (leb (lineCount p) (m .turn .counter) || leb budget (m .turn .steps)) (ended m) (stepped p m)
 
--- what a run answers that stands there
-abbrev pub ending : Turn → Report
-ending t = cond (ltb (t .counter) (t .count)) (spent (t .counter) (t .steps)) (halted (t .counter) (t .steps))
+-- what a run of n lines answers that stands there
+abbrev pub ending : ℕ → Turn → Report
+ending n t = cond (ltb (t .counter) n) (spent (t .counter) (t .steps)) (halted (t .counter) (t .steps))
 
 abbrev pub told : Answer → Turn → Report
-told (Count n) t = ending t
+told (Count n) t = ending n t
 told (Halted c k) t = halted c k
 told (Spent c k) t = spent c k
 told (Refused k l) t = refused k l

@@ -9,12 +9,14 @@ ghost use lib.Dec.{ltb, leb};
 ghost use lib.ListN.{length};
 ghost use Rattle.model.specs.Limits.{maxLines, rowWidth, stateSize};
 ghost use Rattle.model.specs.Answers.{report, outcome};
+ghost use Rattle.model.specs.Stored.{lineCount};
 ghost use Rattle.machine.specs.Loop.{addresses, Masks, Weights};
 ghost use Rattle.watch.specs.Watches.{maxWatches, unused, unwatchable, both, watchOutcome};
 ghost use Rattle.watch.specs.Turns.{noted, concerns, admission, begun, moment, turned, told};
 use machine::PLACES;
 use machine::steps::Run;
 use model::Answer;
+use model::LINE_WIDTH;
 use model::STATE_SIZE;
 
 pub mod twice;
@@ -119,11 +121,10 @@ fn admit(program: &[u16], budget: u16, size: usize, room: usize, wrong: bool) ->
     checked
 }
 
-// Where a watched run stands between two turns: whether it goes on, the count of lines, the run's counter, step tally and bus, and the
-// place that its last step wrote.
+// Where a watched run stands between two turns: whether it goes on, the run's counter, step tally and bus, and the place that its last step
+// wrote.
 struct Turn {
     going: bool,
-    count: u32,
     counter: u16,
     steps: u16,
     bus: u16,
@@ -134,10 +135,9 @@ struct Turn {
 fn begun(checked: Answer, start: u16) -> Turn
     ensures { λ r. ⌜ r ≡ begun checked start ⌝ }
 {
-    let Answer::Count(count) = checked else {
+    let Answer::Count(_) = checked else {
         return Turn {
             going: false,
-            count: 0,
             counter: start,
             steps: 0,
             bus: 0,
@@ -146,7 +146,6 @@ fn begun(checked: Answer, start: u16) -> Turn
     };
     Turn {
         going: true,
-        count,
         counter: start,
         steps: 0,
         bus: 0,
@@ -164,17 +163,15 @@ fn turned(
     state: &mut [u8],
     trace: &mut [u16],
 ) -> Turn
-    requires { ⌜ Masks (now masks) × Weights (now weights) × (t .bus < addresses) × (t .count ≤ maxLines) × (rowWidth * budget ≤ length (now trace)) ⌝ }
+    requires { ⌜ Masks (now masks) × Weights (now weights) × (t .bus < addresses) × (lineCount (now program) ≤ maxLines) × (rowWidth * budget ≤ length (now trace)) ⌝ }
     ensures { λ r. ⌜ (moment r (now (state .exit)) (now (trace .exit)) ≡ turned (now (program .entry)) budget (moment t (now (state .entry)) (now (trace .entry)))) × (r .bus < addresses) ⌝ }
 {
-    let count = t.count;
     let counter = t.counter;
     let steps = t.steps;
     let bus = t.bus;
-    if count <= (counter as u32) || budget <= steps {
+    if program.len() / LINE_WIDTH <= (counter as usize) || budget <= steps {
         return Turn {
             going: false,
-            count,
             counter,
             steps,
             bus,
@@ -189,7 +186,6 @@ fn turned(
     let next = run.step_seen(program, masks, weights, state, trace);
     Turn {
         going: true,
-        count,
         counter: next.counter,
         steps: next.steps,
         bus: next.bus,
@@ -201,12 +197,12 @@ fn turned(
 fn told(checked: Answer, t: Turn) -> Answer
     ensures { λ r. ⌜ report r ≡ told checked t ⌝ }
 {
-    let Answer::Count(_) = checked else {
+    let Answer::Count(count) = checked else {
         return checked;
     };
     let counter = t.counter;
     let steps = t.steps;
-    if (counter as u32) < t.count {
+    if (counter as u32) < count {
         return Answer::Spent { counter, steps };
     }
     Answer::Halted { counter, steps }

@@ -3,8 +3,7 @@
 -- as `&`, the state to `note`, then state and trace store to `turned`, each for a lifetime that is made for the call, and they come back. The
 -- loop's variant is where the run stands, with the lists, and the laws of proofs/WatchLaws say that each turn keeps `Stands`. Assumes nothing.
 use mathlib.Core.Path.{_≡_, refl, sym, _∙_, ap, subst}
-use Prim.Native.Nat.{ℕ, _≤_, _<_, _^_}
-use native.Mathlib.Omega.{arith}
+use Prim.Native.Nat.{ℕ, _<_, _^_}
 use mathlib.Core.WellFounded.{WellFounded, InvImage·wf}
 use mathlib.Core.Bool.{Bool, true, false}
 use lib.WfN.{Nat·lt-wfRel}
@@ -50,7 +49,6 @@ use denote.Triple.Walked.{says, Stays, stay-slice, stay-none, stay-none-slice, w
 use denote.Exit.{yes}
 use Rattle.model.specs.declared.Answer.{Answer}
 use Rattle.model.specs.declared.Answer.the-variants.{Count, Halted, Spent, Refused}
-use Rattle.model.specs.Limits.{maxLines}
 use Rattle.model.specs.Answers.{Report, report, outcome}
 use Rattle.model.proofs.Answer as TA
 use Rattle.model.proofs.Answer.Laws as TA′
@@ -431,8 +429,8 @@ module _ {M : Type 1} (𝓤 : URA M) (H : Heap 𝓤) (A : Atoms 𝓤) (W : Given
         (Note 𝓤 H A at-mem run .pre (to-note ν μ δ ε i))
     goes-note ν μ δ ε i =
         qed W (‵ (flft (ν ∷ []) fullShare) ∷ ‵ (flft (μ ∷ []) fullShare) ∷ (‵ (MutSlice (named 0) (ν ∷ []) R .own (at3 δ (i .watches)) (s₃ ∷ [])) ⊛ ‵ (ShrSlice (named 1) (μ ∷ []) u8 .own (at1 ε (i .state)) (s₁ ∷ []))) ∷ []) ∵
-        move ! (2 ∷ []) $ split ! $ nothing ! $ owned ! u16 (Is u16) (uint-makes 𝓤 H A W w16) (i .turn .steps) _ (refl, LL.owed TT.the-type TT′.the-laws (i .turn) _ (i .typed) .1 .1 .1 .0 .1) $ fjoin ! $
-        owned ! usize (Is usize) (uint-makes 𝓤 H A W w64) (i .turn .place) _ (refl, LL.owed TT.the-type TT′.the-laws (i .turn) _ (i .typed) .1 .1 .1 .1 .1 .0 .1) $ fjoin ! $
+        move ! (2 ∷ []) $ split ! $ nothing ! $ owned ! u16 (Is u16) (uint-makes 𝓤 H A W w16) (i .turn .steps) _ (refl, LL.owed TT.the-type TT′.the-laws (i .turn) _ (i .typed) .1 .1 .0 .1) $ fjoin ! $
+        owned ! usize (Is usize) (uint-makes 𝓤 H A W w64) (i .turn .place) _ (refl, LL.owed TT.the-type TT′.the-laws (i .turn) _ (i .typed) .1 .1 .1 .1 .0 .1) $ fjoin ! $
         move ! (2 ∷ 0 ∷ []) $ fjoin ! $ move ! (1 ∷ 0 ∷ []) $ fjoin ! $ nothing ! $ move ! (3 ∷ 0 ∷ []) $ join ! $ move ! (2 ∷ 0 ∷ []) $ join ! $ join ! $ frame ! $ done !
 
     abbrev turned-args : ℕ → ℕ → GName → GName → GName → GName → Here c → Turn × (RefT (List ℕ) × (ℕ × (RefT (List ℕ) × (RefT (List ℕ) × (RefT (List ℕ) × (RefT (List ℕ) × Unit {0}))))))
@@ -459,7 +457,7 @@ module _ {M : Type 1} (𝓤 : URA M) (H : Heap 𝓤) (A : Atoms 𝓤) (W : Given
     goes-turned l k σ τ ν μ ζ η δ ε i g =
         qed W (‵ (flft κ₀ q₀) ∷ (‵ (flft (σ ∷ []) fullShare) ⊛ (‵ (flft (τ ∷ []) fullShare) ⊛ (‵ (flft (ν ∷ []) fullShare) ⊛ ‵ (flft (μ ∷ []) fullShare))))
         ∷ (‵ own-p ⊛ (‵ (own-m l σ ζ (c .masks)) ⊛ (‵ (own-h k τ η (c .weights)) ⊛ (‵ (MutSlice (named 3) (ν ∷ []) u8 .own (at1 δ (i .state)) (s₁ ∷ [])) ⊛ ‵ (MutSlice (named 4) (μ ∷ []) u16 .own (at2 ε (i .trace)) (s₂ ∷ [])))))) ∷ []) ∵
-        says ! (c .right-m, c .right-w, i .on-bus, few, going c i g .wide) $
+        says ! (c .right-m, c .right-w, i .on-bus, going c i g .few, going c i g .wide) $
         move ! (1 ∷ []) $ split ! $ move ! (1 ∷ []) $ split ! $ move ! (1 ∷ []) $ split ! $
         -- [ν; μ; τ; σ; κ₀; the references]
         nothing ! $ move ! (2 ∷ 0 ∷ []) $ join ! $ move ! (1 ∷ 0 ∷ []) $ join ! $ move ! (1 ∷ 0 ∷ []) $ join ! $ move ! (1 ∷ 0 ∷ []) $ join ! $ move ! (1 ∷ 0 ∷ []) $ join ! $ frame ! $
@@ -467,9 +465,6 @@ module _ {M : Type 1} (𝓤 : URA M) (H : Heap 𝓤) (A : Atoms 𝓤) (W : Given
         -- [state; trace; weights; masks; program]
         nothing ! $ move ! (2 ∷ 0 ∷ []) $ fjoin ! $ move ! (1 ∷ 0 ∷ []) $ fjoin ! $ move ! (1 ∷ 0 ∷ []) $ fjoin ! $ move ! (1 ∷ 0 ∷ []) $ fjoin ! $ owned ! u16 (Is u16) (uint-makes 𝓤 H A W w16) budget _ (refl, small) $ fjoin ! $
         move ! (1 ∷ 0 ∷ []) $ fjoin ! $ owned ! RT (Is RT) (LL.makes TT.the-type TT′.the-plain 𝓤 H A) (i .turn) _ (i .typed) $ fjoin ! $ done !
-      where
-        few : i .turn .count ≤ maxLines
-        few = omega (arith, going c i g .count, going c i g .few)
 
     abbrev told-args : Here c → Answer × (Turn × Unit {0})
     told-args i = (c .checked, (i .turn, tt))
@@ -548,7 +543,7 @@ module _ {M : Type 1} (𝓤 : URA M) (H : Heap 𝓤) (A : Atoms 𝓤) (W : Given
             join ! $
             move ! (4 ∷ 2 ∷ 0 ∷ []) $
             use3 W (raw (Note 𝓤 H A at-mem run .pre (to-note c ν μ δ ε i))) (goes-note c ν μ δ ε i) $
-            calls-at ! fm (Note 𝓤 H A at-mem run) known-note (to-note c ν μ δ ε i) (and-then ! (load ! (from ! (stop !)) (look ! 29 refl)) (and-then ! (load ! (from ! (stop !)) (look ! 25 refl)) (and-then ! (load ! (from ! (fld ! refl (stop !))) (look-in ! 51 (sub ! 5 refl (whole !)))) (and-then ! (load ! (from ! (fld ! refl (stop !))) (look-in ! 51 (sub ! 3 refl (whole !)))) (no-more !))))) (λ u.
+            calls-at ! fm (Note 𝓤 H A at-mem run) known-note (to-note c ν μ δ ε i) (and-then ! (load ! (from ! (stop !)) (look ! 29 refl)) (and-then ! (load ! (from ! (stop !)) (look ! 25 refl)) (and-then ! (load ! (from ! (fld ! refl (stop !))) (look-in ! 51 (sub ! 4 refl (whole !)))) (and-then ! (load ! (from ! (fld ! refl (stop !))) (look-in ! 51 (sub ! 2 refl (whole !)))) (no-more !))))) (λ u.
             use1 W (later (some (λ (r : Unit {0}). ((‵ (flft (ν ∷ []) fullShare) ⊛ ‵ (flft (μ ∷ []) fullShare) ⊛ ‵ ftrue) ⊛ ‵ (Nothing .own r (u ∷ []))) ⊛ raw (ensured 𝓤 H A note.ended (note.clauses 𝓤 H A at-mem run) (ν ∷ [], (μ ∷ [], tt)) (note-args c δ ε i) tt r)))) (id⊢ 𝓤 _) $ await ! tt $ pick ! (λ r.
             split ! $ move ! (1 ∷ []) $ use1 W (some (λ (zs : List Watch × (Unit {0} × (Unit {0} × (Unit {0} × Unit {0})))). ‵ (lasts note.ended (ν ∷ [], (μ ∷ [], tt)) (note-args c δ ε i) zs) ⊛ raw (fact 𝓤 (zs .0 ≡ after-note c i)))) (id⊢ 𝓤 _) $ pick ! (λ zs.
             split ! $ move ! (1 ∷ []) $ heard ! (zs .0 ≡ after-note c i) (λ e.
