@@ -27,7 +27,7 @@ impl Answer {
         }
     }
 
-    /// Takes apart the answer of the exported run.
+    /// Takes apart the answer of the exported run, watched or not.
     pub fn from_run(packed: u64) -> Answer {
         let (ending, counter, steps) = match ending(packed) {
             Ok(parts) => parts,
@@ -99,7 +99,21 @@ impl Layout {
     }
 }
 
-/// The eleven entry points.
+/// A watch that is lent to a run (request 09): the place that it names, and what it holds of it after the run. It lies in
+/// memory as the library and C have it.
+#[repr(C)]
+#[derive(Clone, Copy, Debug, PartialEq, Eq)]
+pub struct Watch {
+    /// The place in the state: 0 to 31 the registers, 32 + n cell n. Any number can be handed over; 544 of them are a place.
+    pub place: u16,
+    /// The place's last value.
+    pub value: u8,
+    /// How many writes reached it, and the step of the last one, 0 for none.
+    pub writes: u16,
+    pub step: u16,
+}
+
+/// The twelve entry points.
 pub trait Dualrail {
     /// Reads a text into stored lines.
     fn read(&self, text: &[u8], store: &mut [u16]) -> Answer;
@@ -117,6 +131,16 @@ pub trait Dualrail {
     fn move_image(&self, old: Layout, new: Layout, from: &[u8], into: &mut [u8]) -> Answer;
     /// Runs a stored program, a trace row for each step.
     fn run(&self, program: &[u16], start: u16, budget: u16, state: &mut [u8], trace: &mut [u16]) -> Answer;
+    /// The same with watches lent to the run.
+    fn run_watched(
+        &self,
+        program: &[u16],
+        start: u16,
+        budget: u16,
+        state: &mut [u8],
+        trace: &mut [u16],
+        watches: &mut [Watch],
+    ) -> Answer;
     /// Judges a stored program, with 17 bytes for each place: how many values it may have, and these.
     fn judge(&self, program: &[u16], sets: &[u8], budget: u16) -> Answer;
     /// Turns published text into our line form.
@@ -128,6 +152,21 @@ pub trait Dualrail {
 #[cfg(test)]
 mod tests {
     use super::Answer::{self, *};
+    use super::Watch;
+    use std::mem::{offset_of, size_of};
+
+    /// Eight bytes, the fields where C puts them; the byte behind the value is nobody's.
+    #[test]
+    fn watches_in_memory() {
+        assert_eq!(size_of::<Watch>(), 8);
+        let offsets = [
+            offset_of!(Watch, place),
+            offset_of!(Watch, value),
+            offset_of!(Watch, writes),
+            offset_of!(Watch, step),
+        ];
+        assert_eq!(offsets, [0, 2, 4, 6]);
+    }
 
     #[test]
     fn packing() {

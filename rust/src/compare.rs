@@ -2,7 +2,7 @@
 //! Answer, lent memory, the guard values around it and the inputs must be the
 //! same afterwards. The rules about whole runs are tested on the answers too.
 
-use crate::answer::{Answer, Dualrail, Layout};
+use crate::answer::{Answer, Dualrail, Layout, Watch};
 use crate::generate as make;
 use crate::lent::Lent;
 use crate::paper::walk::SET;
@@ -15,10 +15,12 @@ pub mod bus;
 pub mod jumps;
 pub mod moves;
 pub mod published;
+pub mod watch;
 use bus::Bus;
 use jumps::Jumps;
 use moves::Moves;
 use published::Published;
+use watch::Watches;
 
 #[derive(Clone, Copy, Debug, PartialEq)]
 pub enum Entry {
@@ -30,6 +32,7 @@ pub enum Entry {
     FromImage,
     MoveImage,
     Run,
+    RunWatched,
     Judge,
     TakeIn,
     SendOut,
@@ -59,6 +62,7 @@ struct Call {
     numbers: Lent<u16>,
     lent_bytes: Lent<u8>,
     lent_numbers: Lent<u16>,
+    watches: Lent<Watch>,
 }
 
 impl Call {
@@ -75,6 +79,9 @@ impl Call {
             Entry::FromImage => on.from_image(layout, bytes, lent_bytes),
             Entry::MoveImage => on.move_image(layout, new, bytes, lent_bytes),
             Entry::Run => on.run(numbers, start, budget, lent_bytes, lent_numbers),
+            Entry::RunWatched => {
+                on.run_watched(numbers, start, budget, lent_bytes, lent_numbers, self.watches.part_mut())
+            }
             Entry::Judge => on.judge(numbers, bytes, budget),
             Entry::TakeIn => on.take_in(bytes, lent_bytes),
             Entry::SendOut => on.send_out(bytes, lent_bytes),
@@ -98,6 +105,7 @@ impl Call {
         }
         match self.entry {
             Entry::Run => shown += &self.lent_bytes.show("state"),
+            Entry::RunWatched => shown += &(self.lent_bytes.show("state") + &self.watches.show("watches")),
             Entry::Judge => shown += &show_sets(self.bytes.part()),
             _ => shown += &format!("lent bytes: {}\n", self.lent_bytes.part().len()),
         }
@@ -123,13 +131,13 @@ fn show_sets(bytes: &[u8]) -> String {
 }
 
 /// One more than the last number of a refusal.
-pub const REFUSALS: usize = 26;
+pub const REFUSALS: usize = 27;
 
 /// What has been tried.
 #[derive(Clone, Default)]
 pub struct Counts {
     pub calls: u64,
-    pub entries: [u64; 11],
+    pub entries: [u64; 12],
     pub refusals: [u64; REFUSALS],
     pub halted: u64,
     pub spent: u64,
@@ -162,11 +170,12 @@ pub struct Counts {
     pub public_bits: u64,
     /// Walks of their expansions on the images of each layout: balanced, spent.
     pub image_walks: [[u64; 2]; 6],
-    /// Of programs full of jumps, of moves, of the bus, and of published text.
+    /// Of programs full of jumps, of moves, of the bus, of published text, and of watches.
     pub jumps: Jumps,
     pub moves: Moves,
     pub bus: Bus,
     pub published: Published,
+    pub watches: Watches,
 }
 
 /// Which of the six a layout is.
@@ -231,6 +240,7 @@ impl Counts {
             Entry::FromImage,
             Entry::MoveImage,
             Entry::Run,
+            Entry::RunWatched,
             Entry::Judge,
             Entry::TakeIn,
             Entry::SendOut,
@@ -264,7 +274,8 @@ impl Counts {
             );
         }
         shown += &format!("\nimages refused that another layout takes: {}", self.other_images);
-        shown + &self.jumps.show() + &self.moves.show() + &self.bus.show() + &self.published.show()
+        shown += &(self.jumps.show() + &self.moves.show() + &self.bus.show());
+        shown + &self.published.show() + &self.watches.show()
     }
 }
 
@@ -322,8 +333,20 @@ impl Comparison<'_> {
         &mut self,
         entry: Entry,
         small: Small,
+        input: (&[u8], &[u16]),
+        lent: (&[u8], &[u16]),
+    ) -> Result<(Answer, Call), String> {
+        self.call_with_watches(entry, small, input, lent, &[])
+    }
+
+    /// The same with watches lent too.
+    fn call_with_watches(
+        &mut self,
+        entry: Entry,
+        small: Small,
         (bytes, numbers): (&[u8], &[u16]),
         (lent_bytes, lent_numbers): (&[u8], &[u16]),
+        watches: &[Watch],
     ) -> Result<(Answer, Call), String> {
         let rng = &mut self.rng;
         let mut got = Call {
@@ -333,6 +356,7 @@ impl Comparison<'_> {
             numbers: Lent::new(rng, numbers, Random::number),
             lent_bytes: Lent::new(rng, lent_bytes, Random::byte),
             lent_numbers: Lent::new(rng, lent_numbers, Random::number),
+            watches: Lent::new(rng, watches, make::watch::any),
         };
         let before = got.clone();
         let mut wanted = got.clone();
@@ -346,6 +370,7 @@ impl Comparison<'_> {
             report += &got.numbers.differs(&wanted.numbers, "input numbers changed");
             report += &got.lent_bytes.differs(&wanted.lent_bytes, "lent bytes");
             report += &got.lent_numbers.differs(&wanted.lent_numbers, "lent numbers");
+            report += &got.watches.differs(&wanted.watches, "watches");
             return Err(report + &before.show());
         }
         self.counts.add(&before, answer);
@@ -430,7 +455,7 @@ impl Comparison<'_> {
         if case % 25 == 0 {
             return self.long(case / 25);
         }
-        match self.rng.below(21) {
+        match self.rng.below(23) {
             0..=3 => {
                 let lines = make::accepted_program(&mut self.rng);
                 self.whole_way(&lines)
@@ -443,6 +468,7 @@ impl Comparison<'_> {
             13..=14 => self.moves(),
             15..=16 => self.bus(),
             17..=18 => self.published(),
+            19..=20 => self.watches(),
             _ => self.walks(),
         }
     }
@@ -661,7 +687,7 @@ impl Comparison<'_> {
     /// The sizes where 7 and 9 begin, the longest texts and the longest runs.
     fn long(&mut self, which: u64) -> Result<(), String> {
         let near = self.rng.pick(&[0, 1, 2, 2, 2]);
-        match which % 6 {
+        match which % 7 {
             0 => self.long_text(MOST_LINES - 1 + near),
             1 => self.long_stored(MOST_LINES - 1 + near),
             2 => self.long_accepted(MOST_CHECKED - 1 + near),
@@ -671,6 +697,7 @@ impl Comparison<'_> {
                 self.whole_way(&lines)
             }
             4 => self.long_published(),
+            5 => self.long_watched(),
             _ => self.long_run(),
         }
     }

@@ -1,6 +1,6 @@
 //! The static library: its exported functions, and safe functions over them.
 
-use crate::answer::{Answer, Dualrail, Layout};
+use crate::answer::{Answer, Dualrail, Layout, Watch};
 
 extern "C" {
     fn dualrail_read(text: *const u8, text_length: usize, store: *mut u16, store_length: usize) -> u64;
@@ -49,6 +49,18 @@ extern "C" {
         state_length: usize,
         trace: *mut u16,
         trace_length: usize,
+    ) -> u64;
+    fn dualrail_run_watched(
+        program: *const u16,
+        program_length: usize,
+        start: u16,
+        budget: u16,
+        state: *mut u8,
+        state_length: usize,
+        trace: *mut u16,
+        trace_length: usize,
+        watches: *mut Watch,
+        watches_length: usize,
     ) -> u64;
     fn dualrail_judge(
         program: *const u16,
@@ -127,6 +139,30 @@ pub fn run(program: &[u16], start: u16, budget: u16, state: &mut [u8], trace: &m
     })
 }
 
+pub fn run_watched(
+    program: &[u16],
+    start: u16,
+    budget: u16,
+    state: &mut [u8],
+    trace: &mut [u16],
+    watches: &mut [Watch],
+) -> Answer {
+    Answer::from_run(unsafe {
+        dualrail_run_watched(
+            program.as_ptr(),
+            program.len(),
+            start,
+            budget,
+            state.as_mut_ptr(),
+            state.len(),
+            trace.as_mut_ptr(),
+            trace.len(),
+            watches.as_mut_ptr(),
+            watches.len(),
+        )
+    })
+}
+
 pub fn judge(program: &[u16], sets: &[u8], budget: u16) -> Answer {
     Answer::from_judge(unsafe {
         dualrail_judge(program.as_ptr(), program.len(), sets.as_ptr(), sets.len(), budget)
@@ -168,6 +204,17 @@ impl Dualrail for Library {
     }
     fn run(&self, program: &[u16], start: u16, budget: u16, state: &mut [u8], trace: &mut [u16]) -> Answer {
         run(program, start, budget, state, trace)
+    }
+    fn run_watched(
+        &self,
+        program: &[u16],
+        start: u16,
+        budget: u16,
+        state: &mut [u8],
+        trace: &mut [u16],
+        watches: &mut [Watch],
+    ) -> Answer {
+        run_watched(program, start, budget, state, trace, watches)
     }
     fn judge(&self, program: &[u16], sets: &[u8], budget: u16) -> Answer {
         judge(program, sets, budget)
@@ -211,6 +258,18 @@ mod tests {
             assert_eq!(dualrail_run(null(), 0, 5, 0, image.as_mut_ptr(), 544, odd, 0), 5 << 16);
             assert_eq!(dualrail_run(odd, 0, 0, 1, image.as_mut_ptr(), 544, null_mut(), 0), 20 << 48);
             assert_eq!(dualrail_run(null(), 0, 0, 0, null_mut(), 0, null_mut(), 0), 18 << 48);
+            let watched = |start, state: *mut u8, size, watches: *mut Watch| {
+                dualrail_run_watched(null(), 0, start, 0, state, size, null_mut(), 0, watches, 0)
+            };
+            assert_eq!(watched(5, image.as_mut_ptr(), 544, null_mut()), 5 << 16);
+            assert_eq!(watched(0, image.as_mut_ptr(), 544, odd.cast()), 0);
+            assert_eq!(watched(0, null_mut(), 0, null_mut()), 18 << 48);
+            let mut watch = Watch { place: 543, value: 1, writes: 2, step: 3 };
+            assert_eq!(
+                dualrail_run_watched(odd, 0, 7, 0, image.as_mut_ptr(), 544, odd, 0, &mut watch, 1),
+                7 << 16
+            );
+            assert_eq!(watch, Watch { place: 543, value: 0, writes: 0, step: 0 });
             let sets = [[1u8; 17]; 544].concat();
             assert_eq!(dualrail_judge(null(), 0, sets.as_ptr(), sets.len(), 5), 0);
             assert_eq!(dualrail_judge(odd, 0, sets.as_ptr(), sets.len(), 0), 0);

@@ -11,6 +11,7 @@ use crate::random::Random;
 pub mod bus;
 pub mod moves;
 pub mod published;
+pub mod watch;
 
 // ---------------------------------------------------------------- layouts
 

@@ -2,12 +2,13 @@
 //! docs/STORED-LINES.md, which it asks for), for clarity and not for speed;
 //! the requests of document 02 likewise. The test compares the library with this.
 
-use crate::answer::{Answer, Dualrail, Layout};
+use crate::answer::{Answer, Dualrail, Layout, Watch};
 
 pub mod layout;
 pub mod moves;
 pub mod published;
 pub mod walk;
+pub mod watch;
 
 /// Bytes of a state: the registers, then the cells.
 pub const STATE: usize = 32 + 512;
@@ -615,7 +616,7 @@ fn from_image(layout: Layout, image: &[u8], bits: &mut [u8]) -> Answer {
 // ---------------------------------------------------------------- machine
 
 /// The place of an operand in the state, none for a literal.
-fn place(operand: Operand, state: &[u8]) -> Option<usize> {
+pub fn place(operand: Operand, state: &[u8]) -> Option<usize> {
     let sum = |base: u8, offset: u8| state[base as usize] as usize + offset as usize;
     match operand {
         Literal(_) => None,
@@ -625,6 +626,11 @@ fn place(operand: Operand, state: &[u8]) -> Option<usize> {
         Sensitive { base, offset } => Some(32 + 128 + sum(base, offset) % 128),
         Table { base, offset } => Some(32 + 256 + sum(base, offset) % 256),
     }
+}
+
+/// The place that a line writes in this state, none where there is no write.
+pub fn written_place(line: &Line, state: &[u8]) -> Option<usize> {
+    place(line.destination?, state)
 }
 
 /// An operand's address, a cell's number; a register, a literal and an empty field have none.
@@ -708,14 +714,24 @@ pub fn step(line: &Line, Point { counter, mut bus }: Point, state: &mut [u8]) ->
         Mul => a.wrapping_mul(b),
         Nop | Jmp | Beq | Bne => 0,
     };
-    if let Some(destination) = line.destination {
-        let place = place(destination, state).unwrap();
+    if let Some(place) = written_place(line, state) {
         row[1] = result.count_ones() as u16;
         row[2] = (state[place] ^ result).count_ones() as u16;
         state[place] = result;
     }
     let next = if taken { line.target.unwrap() } else { counter + 1 };
     (Point { counter: next, bus }, row)
+}
+
+/// What a run checks besides its program.
+pub fn run_fault(budget: u16, state: &[u8], trace: &[u16]) -> Option<Answer> {
+    if state.len() != STATE {
+        return Some(refused(18, 0));
+    }
+    if trace.len() < ROW * budget as usize {
+        return Some(refused(20, 0));
+    }
+    None
 }
 
 /// The run, with the step that it is made of.
@@ -725,13 +741,10 @@ pub fn run(
     budget: u16,
     state: &mut [u8],
     trace: &mut [u16],
-    one_step: impl Fn(&Line, Point, &mut [u8]) -> (Point, Row),
+    mut one_step: impl FnMut(&Line, Point, &mut [u8]) -> (Point, Row),
 ) -> Answer {
-    if state.len() != STATE {
-        return refused(18, 0);
-    }
-    if trace.len() < ROW * budget as usize {
-        return refused(20, 0);
+    if let Some(refusal) = run_fault(budget, state, trace) {
+        return refusal;
     }
     let mut point = Point::start(start);
     let mut steps = 0;
@@ -792,6 +805,20 @@ impl Dualrail for Paper {
     fn run(&self, program: &[u16], start: u16, budget: u16, state: &mut [u8], trace: &mut [u16]) -> Answer {
         stored_program(program)
             .map_or_else(|answer| answer, |lines| run(&lines, start, budget, state, trace, step))
+    }
+    fn run_watched(
+        &self,
+        program: &[u16],
+        start: u16,
+        budget: u16,
+        state: &mut [u8],
+        trace: &mut [u16],
+        watches: &mut [Watch],
+    ) -> Answer {
+        stored_program(program).map_or_else(
+            |answer| answer,
+            |lines| watch::run_watched(&lines, start, budget, state, trace, watches),
+        )
     }
     fn judge(&self, program: &[u16], sets: &[u8], budget: u16) -> Answer {
         stored_program(program).map_or_else(|answer| answer, |lines| walk::judge(&lines, sets, budget))

@@ -1,6 +1,6 @@
 //! The plain C that the benchmark measures against (bench/plain.c).
 
-use crate::answer::{Answer, Dualrail, Layout};
+use crate::answer::{Answer, Dualrail, Layout, Watch};
 
 extern "C" {
     fn plain_read(text: *const u8, text_length: usize, store: *mut u16, store_length: usize) -> u64;
@@ -49,6 +49,18 @@ extern "C" {
         state_length: usize,
         trace: *mut u16,
         trace_length: usize,
+    ) -> u64;
+    fn plain_run_watched(
+        program: *const u16,
+        program_length: usize,
+        start: u16,
+        budget: u16,
+        state: *mut u8,
+        state_length: usize,
+        trace: *mut u16,
+        trace_length: usize,
+        watches: *mut Watch,
+        watches_length: usize,
     ) -> u64;
     fn plain_judge(
         program: *const u16,
@@ -100,6 +112,13 @@ impl Dualrail for Plain {
         Answer::from_run(unsafe {
             plain_run(program.as_ptr(), program.len(), start, budget,
                 state.as_mut_ptr(), state.len(), trace.as_mut_ptr(), trace.len())
+        })
+    }
+    fn run_watched(&self, program: &[u16], start: u16, budget: u16, state: &mut [u8], trace: &mut [u16],
+        watches: &mut [Watch]) -> Answer {
+        Answer::from_run(unsafe {
+            plain_run_watched(program.as_ptr(), program.len(), start, budget, state.as_mut_ptr(), state.len(),
+                trace.as_mut_ptr(), trace.len(), watches.as_mut_ptr(), watches.len())
         })
     }
     fn judge(&self, program: &[u16], sets: &[u8], budget: u16) -> Answer {

@@ -13,7 +13,7 @@ use std::panic::{catch_unwind, AssertUnwindSafe};
 use std::path::Path;
 
 /// How many requests of document 02 are in force: one more with each that lands.
-pub const IN_FORCE: u32 = 8;
+pub const IN_FORCE: u32 = 9;
 
 /// What the cases are called on.
 pub struct Tested<'a> {
@@ -77,7 +77,7 @@ mod tests {
     use crate::paper::Paper;
 
     /// A right case for each call, without its first two lines.
-    const RIGHT: [&str; 28] = [
+    const RIGHT: [&str; 31] = [
         "call read\ntext \"u,nop,,,,\\nx\"\nroom 13\nanswer refused 1 1\nwritten 6*0\n",
         "call read\ntext repeat 2 \"u,nop,,,,\\n\"\nroom 13\nanswer count 2\nwritten repeat 2 6*0\n",
         "call write\nprogram \"u,nop,,,,\\n\"\nroom 12\nanswer count 10\nout \"u,nop,,,,\\n\"\n",
@@ -122,6 +122,12 @@ mod tests {
         "call send-out\ntext \"u,jmp,,,,2\\ns,mov,r16,%r4+2,,\\n\"\nroom 27\nanswer count 27\n\
          out \"jmp L2\\nmov r16 !r4,130\\nL2:\\n\"\n",
         "call send-out\ntext \"u,jmp,,,,2\\n\"\nroom 0\nanswer refused 16 0\n",
+        // Cell 1 is written twice, the second time with the same value; r5 is not, and stays 9.
+        "call run-watched\nprogram \"u,mov,@1,#7,,\\n\"\nprogram \"u,mov,@1,#7,,\\n\"\nstate 5*00 09 538*00\nstart 0\n\
+         budget 2\nwatch 33 5\nroom 18\nanswer halted 2 2\nrow 0 3 3 0 0 1 0 0 1\nrow 1 3 0 0 0 1 0 0 0\n\
+         changed 33=7\nwatched 33 7 2 2\nwatched 5 9 0 0\n",
+        "call run-watched\nprogram \"\"\nstate 544*00\nstart 0\nbudget 0\nwatch 0 543 544\nroom 0\nanswer refused 26 0\n",
+        "call run-watched\nprogram \"\"\nstate 544*00\nstart 3\nbudget 0\nwatch -\nroom 0\nanswer halted 3 0\n",
     ];
 
     fn tally(contents: &str, report: &mut dyn FnMut(String)) -> Tally {
@@ -196,6 +202,21 @@ mod tests {
         (26, "r16 !r4,130", "r16 !r4,129"),
         (27, "16 0", "24 0"),
         (27, "room 0", "room 1\nout \"x\""),
+        (28, "watched 33 7 2 2", "watched 32 7 2 2"),
+        (28, "watched 33 7 2 2", "watched 33 6 2 2"),
+        (28, "watched 33 7 2 2", "watched 33 7 1 2"),
+        (28, "watched 33 7 2 2", "watched 33 7 2 1"),
+        (28, "watched 5 9 0 0", "watched 5 0 0 0"),
+        (28, "watched 5 9 0 0\n", ""),
+        (28, "watch 33 5", "watch 5 33"),
+        (28, "watch 33 5", "watch 33 5 6"),
+        (28, "row 1 3 0", "row 1 3 3"),
+        (28, "changed 33=7", "changed 33=6"),
+        (29, "543 544", "543"),
+        (29, "26 0", "20 0"),
+        (29, "26 0", "26 0\nwatched 0 0 0 0"),
+        (30, "watch -", "watch 9*0"),
+        (30, "halted 3 0", "halted 3 1"),
         // What cannot be read.
         (0, "call read", "call reed"),
         (0, "room 13", "room"),
@@ -225,6 +246,12 @@ mod tests {
         (25, "text \";\\njmp a\\n\"\n", ""),
         (26, "room 27", "room 26"),
         (27, "room 0", "room 0\nlayout 0 0"),
+        (28, "watch 33 5\n", ""),
+        (28, "watch 33 5", "watch 33 65536"),
+        (28, "watched 5 9 0 0", "watched 5 9 0"),
+        (28, "watched 5 9 0 0", "watched 5 256 0 0"),
+        (28, "call run-watched", "call run"),
+        (30, "watch -", "watch -\nwatched 0 0 0 0"),
     ];
 
     #[test]

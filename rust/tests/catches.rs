@@ -11,7 +11,7 @@ use dualrail::paper::{
     MOST_CHECKED, MOST_LINES, PAGE, ROW, SIX, STATE,
 };
 use dualrail::Answer::{self, *};
-use dualrail::{Dualrail, Layout};
+use dualrail::{Dualrail, Layout, Watch};
 use std::ops::RangeInclusive;
 
 #[path = "catches/bus.rs"]
@@ -24,6 +24,8 @@ mod layouts;
 mod moves;
 #[path = "catches/published.rs"]
 mod published;
+#[path = "catches/watch.rs"]
+mod watch;
 
 /// An entry point with a layout.
 type InLayout<T> = fn(Layout, &[T], &mut [T]) -> Answer;
@@ -50,6 +52,7 @@ struct Variant {
     from_image: InLayout<u8>,
     move_image: Move,
     run: fn(&[u16], u16, u16, &mut [u8], &mut [u16]) -> Answer,
+    run_watched: watch::RunWatched,
     judge: fn(&[u16], &[u8], u16) -> Answer,
     take_in: Convert,
     send_out: Convert,
@@ -74,6 +77,10 @@ struct Variant {
     /// The rules by which published text is taken in and sent out, if they are not the right ones.
     taking: Option<published::Taking>,
     sending: Option<published::Sending>,
+    /// How watches are kept, if not as is right; what is wrong with a run, whole or at each step, that is watched.
+    watching: Option<watch::Watching>,
+    watched_run: Option<bus::Run>,
+    watched_step: Option<bus::Fault>,
 }
 
 const RIGHT: Variant = Variant {
@@ -86,6 +93,9 @@ const RIGHT: Variant = Variant {
     from_image: |layout, image, bits| Paper.from_image(layout, image, bits),
     move_image: |old, new, from, into| Paper.move_image(old, new, from, into),
     run: |program, start, budget, state, trace| Paper.run(program, start, budget, state, trace),
+    run_watched: |program, start, budget, state, trace, watches| {
+        Paper.run_watched(program, start, budget, state, trace, watches)
+    },
     judge: |program, sets, budget| Paper.judge(program, sets, budget),
     take_in: |text, out| Paper.take_in(text, out),
     send_out: |text, out| Paper.send_out(text, out),
@@ -102,6 +112,9 @@ const RIGHT: Variant = Variant {
     step_of_walks: None,
     taking: None,
     sending: None,
+    watching: None,
+    watched_run: None,
+    watched_step: None,
 };
 
 impl Variant {
@@ -187,6 +200,31 @@ impl Dualrail for Variant {
             }),
             None => (self.run)(program, start, budget, state, trace),
         }
+    }
+    fn run_watched(
+        &self,
+        program: &[u16],
+        start: u16,
+        budget: u16,
+        state: &mut [u8],
+        trace: &mut [u16],
+        watches: &mut [Watch],
+    ) -> Answer {
+        let handed = (program, start, budget);
+        if let Some(rules) = self.watching {
+            return watch::watched_by(rules, handed, (state, trace), watches);
+        }
+        if let Some(run) = self.watched_run {
+            return watch::watched_as(handed, (state, trace), watches, |state, trace| {
+                run(program, start, budget, state, trace)
+            });
+        }
+        if let Some(fault) = self.watched_step {
+            return watch::watched_as(handed, (state, trace), watches, |state, trace| {
+                run_by(handed, state, trace, |line, point, state| bus::faulty_step(fault, line, point, state))
+            });
+        }
+        (self.run_watched)(program, start, budget, state, trace, watches)
     }
     fn judge(&self, program: &[u16], sets: &[u8], budget: u16) -> Answer {
         match self.step_of_walks {
@@ -396,7 +434,7 @@ fn run_by(
     (program, start, budget): (&[u16], u16, u16),
     state: &mut [u8],
     trace: &mut [u16],
-    step: impl Fn(&Line, Point, &mut [u8]) -> (Point, Row),
+    step: impl FnMut(&Line, Point, &mut [u8]) -> (Point, Row),
 ) -> Answer {
     match stored_program(program) {
         Ok(lines) => paper::run(&lines, start, budget, state, trace, step),
@@ -1755,6 +1793,7 @@ fn no_fault_but_the_named_ones() {
         arrived: layouts::right_entries,
         taking: Some(published::TAKING),
         sending: Some(published::SENDING),
+        watching: Some(watch::WATCHING),
         run: |program, start, budget, state, trace| {
             run_taking((program, start, budget), state, trace, |line, state| {
                 reading(line, state, |_, _| Reads::Right)
@@ -1770,6 +1809,8 @@ fn no_fault_but_the_named_ones() {
         ..RIGHT
     };
     compare(&right, 2, 1, 2_000).unwrap_or_else(|report| panic!("{report}"));
+    let right = Variant { watched_run: Some(RIGHT.run), ..RIGHT };
+    compare(&right, 2, 1, 2_000).unwrap_or_else(|report| panic!("{report}"));
 }
 
 #[test]
@@ -1779,6 +1820,7 @@ fn every_fault_is_found() {
     let whole = variants().into_iter().chain(jumps::variants()).map(named).chain(layouts::variants());
     let (mut found, mut missed) = (0, vec![]);
     let whole = whole.chain(moves::variants()).chain(bus::variants()).chain(published::variants());
+    let whole = whole.chain(watch::variants());
     for (fault, variant) in whole {
         match compare(&variant, 2, 1, 12_000) {
             Ok(_) => missed.push(fault),

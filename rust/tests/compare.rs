@@ -4,6 +4,7 @@ use dualrail::compare::bus::Bus;
 use dualrail::compare::jumps::Jumps;
 use dualrail::compare::moves::Moves;
 use dualrail::compare::published::{Published, FORMS};
+use dualrail::compare::watch::Watches;
 use dualrail::compare::{compare, Counts, WITH_LAYOUT};
 use dualrail::generate::moves::Damage;
 use dualrail::generate::published::Slip;
@@ -11,7 +12,7 @@ use dualrail::paper::Opcode;
 use dualrail::plain::Plain;
 use dualrail::Library;
 
-const CASES: u64 = 120_000;
+const CASES: u64 = 132_000;
 
 fn from_environment(name: &str) -> Option<u64> {
     std::env::var(name).ok().map(|value| value.parse().expect("a number"))
@@ -51,6 +52,7 @@ fn library_against_paper() {
     moves_are_met(&counts.moves);
     the_bus_is_met(&counts.bus);
     published_text_is_met(&counts.published);
+    watches_are_met(&counts.watches);
 }
 
 /// Request 04: each of the six layouts often, in whole runs and walks too, and 23 before every other refusal.
@@ -203,6 +205,42 @@ fn published_text_is_met(published: &Published) {
     for (name, counts, least) in at_least {
         assert!(counts.iter().all(|&count| count >= least), "{name}: {counts:?} only");
     }
+}
+
+/// Request 09: lists of every length, places touched in every way, counts and steps that need all their bits, every
+/// relation, and 26 after every other refusal.
+fn watches_are_met(watches: &Watches) {
+    let at_least = [
+        ("lists", &watches.lists[..], 150),
+        ("runs without a step", &watches.idle, 150),
+        ("watches by how their places are touched", &watches.touched, 2_500),
+        ("watches unwritten and not 0", &[watches.unwritten], 6_000),
+        ("watches on one place", &[watches.twice], 9_000),
+        ("watches by the destination that wrote them", &watches.forms, 800),
+        ("the same value last, always", &[watches.same, watches.always_same], 1_500),
+        ("written by a line that reads it, through it", &[watches.argument, watches.base], 1_200),
+        ("destinations that are elsewhere at the end", &[watches.elsewhere], 100),
+        ("read after the last write", &[watches.read_later], 700),
+        ("written by the first step last", &[watches.first], 1_500),
+        ("written by the last step, halted, spent", &watches.last, 1_300),
+        ("written at the ends", &watches.ends, 140),
+        ("writes and steps above 8 and 15 bits", &watches.large, 350),
+        ("most writes", &[watches.most], 40),
+        ("runs without watches, watches alone, cut", &[watches.without, watches.alone, watches.cut], 4_000),
+        ("written in the front, in the back, in both", &watches.halves, 2_000),
+        ("26 for the count, a place, both", &watches.wrong, 600),
+        ("26 for nine, for 544", &watches.nearest, 150),
+        ("26 without a step", &[watches.idle_26], 1_000),
+        ("20 for more numbers than 16 bits count", &[watches.wide], 50),
+    ];
+    for (name, counts, least) in at_least {
+        assert!(counts.iter().all(|&count| count >= least), "{name}: {counts:?} only");
+    }
+    for number in [3, 4, 5, 6, 7, 18, 20] {
+        let [right, wrong] = watches.refusals.map(|refusals| refusals[number]);
+        assert!(right >= 40 && wrong >= 120, "{number} came {right} and {wrong} times only");
+    }
+    assert_eq!(watches.refusals[0][26], 0, "26 came for a right list");
 }
 
 /// The measure of the benchmark does the same job.

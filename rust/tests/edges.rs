@@ -1,12 +1,12 @@
 //! The edges and examples that the papers print, and a few for the walk, for the layouts, for jumps, for moves, for
-//! the bus and for the published spelling.
+//! the bus, for the published spelling and for watches.
 
 use dualrail::paper::walk::SET;
-use dualrail::paper::{Paper, ROW, SIX, STATE};
+use dualrail::paper::{Paper, MOST_LINES, ROW, SIX, STATE};
 use dualrail::plain::Plain;
 use dualrail::simon;
 use dualrail::Answer::{self, *};
-use dualrail::{Dualrail, Layout, Library};
+use dualrail::{Dualrail, Layout, Library, Watch};
 
 fn each(test: fn(&dyn Dualrail)) {
     test(&Library);
@@ -1471,5 +1471,162 @@ fn published_by_us_refused() {
         assert_eq!(out, [7; 13]);
         assert_eq!(on.send_out(b"u,jmp,,,,1\n", &mut out[..12]), Counted(11));
         assert_eq!(&out, b"jmp L1\nL1:\n\x07\x07");
+    });
+}
+
+/// Watches on these places, with something in their other fields.
+fn watches_on(places: &[u16]) -> Vec<Watch> {
+    places.iter().map(|&place| Watch { place, value: 77, writes: 777, step: 7_777 }).collect()
+}
+
+/// Request 09: a run from line 0, all places being 0 before it but for these. Trace and state must be those without the
+/// watches, each of which must then hold this: the place, its last value, how many writes reached it, the step of the last.
+fn watched(on: &dyn Dualrail, text: &str, budget: u16, places: &[(usize, u8)], held: &[[u16; 4]]) -> Answer {
+    let program = stored(on, text);
+    let mut state = [0; STATE];
+    for &(place, value) in places {
+        state[place] = value;
+    }
+    let mut trace = vec![7; ROW * budget as usize];
+    let (mut state_without, mut trace_without) = (state, trace.clone());
+    let without = on.run(&program, 0, budget, &mut state_without, &mut trace_without);
+    let mut watches = watches_on(&held.iter().map(|watch| watch[0]).collect::<Vec<u16>>());
+    let answer = on.run_watched(&program, 0, budget, &mut state, &mut trace, &mut watches);
+    assert_eq!((answer, state, trace), (without, state_without, trace_without), "{text}");
+    let after: Vec<[u16; 4]> =
+        watches.iter().map(|watch| [watch.place, watch.value as u16, watch.writes, watch.step]).collect();
+    assert_eq!(after, held, "{text}");
+    answer
+}
+
+/// Request 09: two writes each of r4 and of cell 3, the last one of the value that stood there; two watches may name one
+/// place, and a place without a write has its value all the same.
+#[test]
+fn a_watched_run() {
+    each(|on| {
+        let text = "u,mov,r4,#1,,\nu,mov,@3,r4,,\nu,add,r4,r4,r4,\nu,mov,@3,#1,,\n";
+        let held = [
+            [4, 2, 2, 3],
+            [35, 1, 2, 4],
+            [5, 9, 0, 0],
+            [4, 2, 2, 3],
+            [543, 200, 0, 0],
+            [3, 0, 0, 0],
+            [31, 6, 0, 0],
+        ];
+        let places = [(5, 9), (543, 200), (31, 6)];
+        assert_eq!(watched(on, text, 20, &places, &held), Halted { counter: 4, steps: 4 });
+        assert_eq!(watched(on, text, 20, &places, &[]), Halted { counter: 4, steps: 4 });
+        let eight = [[35, 1, 2, 4]; 8];
+        assert_eq!(watched(on, text, 4, &places, &eight), Halted { counter: 4, steps: 4 });
+    });
+}
+
+/// Request 09: what is read or compared is not written; nop, jmp and branches write nothing, r0 neither.
+#[test]
+fn watches_on_places_that_are_read() {
+    each(|on| {
+        let text = "u,nop,,,,\nu,beq,,r4,r5,3\nu,mov,r4,#9,,\nu,bne,,r4,@0,2\nu,jmp,,,,5\nu,mov,r6,r5,,\n";
+        let held = [[4, 0, 0, 0], [5, 0, 0, 0], [32, 0, 0, 0], [0, 0, 0, 0], [6, 0, 1, 5]];
+        assert_eq!(watched(on, text, 20, &[(6, 255)], &held), Halted { counter: 6, steps: 5 });
+        // A public place in a marked line means its lowest bit; the whole of what is written counts.
+        let held = [[4, 6, 0, 0], [16, 0, 1, 1], [17, 4, 1, 2]];
+        watched(on, "s,mov,r16,r4,,\ns,not,r17,r18,,\n", 20, &[(4, 6), (16, 1), (18, 5)], &held);
+    });
+}
+
+/// Request 09: a loop that adds at steps 1, 3 and 5, whole and cut. The last step of a budget counts too.
+#[test]
+fn watches_on_a_loop() {
+    each(|on| {
+        let text = "u,add,r4,r4,#1,\nu,bne,,r4,#3,0\n";
+        assert_eq!(watched(on, text, 20, &[], &[[4, 3, 3, 5]]), Halted { counter: 2, steps: 6 });
+        assert_eq!(watched(on, text, 5, &[], &[[4, 3, 3, 5]]), Spent { counter: 1, steps: 5 });
+        assert_eq!(watched(on, text, 4, &[], &[[4, 2, 2, 3]]), Spent { counter: 0, steps: 4 });
+        assert_eq!(watched(on, text, 1, &[], &[[4, 1, 1, 1]]), Spent { counter: 1, steps: 1 });
+        assert_eq!(watched(on, text, 0, &[(4, 8)], &[[4, 8, 0, 0]]), Spent { counter: 0, steps: 0 });
+        assert_eq!(watched(on, "", 9, &[(4, 8)], &[[4, 8, 0, 0]]), Halted { counter: 0, steps: 0 });
+    });
+}
+
+/// Request 09: places behind bases are those before the write. r4 is 2 and then 7, which it reads through itself.
+#[test]
+fn watches_behind_bases() {
+    each(|on| {
+        let text = "u,mov,!r4+126,#7,,\nu,mov,%r4+1,#8,,\nu,mov,^r6+255,#9,,\nu,mov,r4,!r4+126,,\nu,mov,!r4+126,#1,,\n";
+        let held = [
+            [32, 7, 1, 1],
+            [32 + 131, 8, 1, 2],
+            [32 + 384, 9, 1, 3],
+            [4, 7, 1, 4],
+            [32 + 5, 1, 1, 5],
+            [6, 129, 0, 0],
+            [32 + 128, 0, 0, 0],
+            [32 + 3, 0, 0, 0],
+        ];
+        assert_eq!(watched(on, text, 20, &[(4, 2), (6, 129)], &held), Halted { counter: 5, steps: 5 });
+    });
+}
+
+/// Request 09: as many steps as a run can have, and as many writes: of the 65,535 one is a jump at least.
+#[test]
+fn watches_on_the_longest_runs() {
+    each(|on| {
+        let [add, jump] = ["u,add,r4,r4,#1,\n", "u,jmp,,,,0\n"].map(|line| stored(on, line));
+        let held = |adds: usize| {
+            let program = [add.repeat(adds), jump.clone()].concat();
+            let (mut state, mut trace) = ([0; STATE], vec![0; ROW * 65_535]);
+            let mut watches = watches_on(&[4]);
+            let answer = on.run_watched(&program, 0, 65_535, &mut state, &mut trace, &mut watches);
+            assert!(matches!(answer, Spent { steps: 65_535, .. }), "{answer:?}");
+            (watches[0].value, watches[0].writes, watches[0].step)
+        };
+        assert_eq!(held(1), (0, 32_768, 65_535));
+        assert_eq!(held(2), (170, 43_690, 65_534));
+        assert_eq!(held(MOST_LINES - 1), (254, 65_534, 65_535));
+    });
+}
+
+/// Request 09: 26 more than eight watches or a place above 543, also where no step is done; after 20, at line 0. Nothing
+/// that is lent changes.
+#[test]
+fn watches_refused() {
+    each(|on| {
+        let right = stored(on, "u,mov,r4,#1,,\n");
+        let answer = |program: &[u16], size: usize, room: usize, places: &[u16]| {
+            let (mut state, mut trace, mut watches) = (vec![3; size], vec![5; room], watches_on(places));
+            let answer = on.run_watched(program, 0, 1, &mut state, &mut trace, &mut watches);
+            if let Refused { .. } = answer {
+                assert_eq!((state, trace, watches), (vec![3; size], vec![5; room], watches_on(places)));
+            }
+            answer
+        };
+        let done = Halted { counter: 1, steps: 1 };
+        for (places, wanted) in [
+            (&[][..], done),
+            (&[543; 8], done),
+            (&[0; 9], refused(26, 0)),
+            (&[0; 256], refused(26, 0)),
+            (&[544], refused(26, 0)),
+            (&[65_535], refused(26, 0)),
+            (&[1_024], refused(26, 0)),
+            (&[0, 0, 0, 0, 0, 0, 0, 544], refused(26, 0)),
+            (&[544, 0], refused(26, 0)),
+            (&[544; 9], refused(26, 0)),
+        ] {
+            assert_eq!(answer(&right, STATE, ROW, places), wanted, "{places:?}");
+        }
+        assert_eq!(answer(&[], STATE, ROW, &[544]), refused(26, 0));
+        let seventh = [2, 0, 0, 0, 0, 0].repeat(MOST_LINES + 1);
+        let sixth = [&right[..], &[0, 1, 0, 0, 0, 65_535]].concat();
+        for wrong in [&[544][..], &[0; 9]] {
+            assert_eq!(answer(&seventh, 1, 0, wrong), refused(7, MOST_LINES as u32));
+            assert_eq!(answer(&[2, 0, 0, 0, 0, 0], 1, 0, wrong), refused(3, 0));
+            assert_eq!(answer(&sixth, 1, 0, wrong), refused(6, 1));
+            assert_eq!(answer(&right, 1, 0, wrong), refused(18, 0));
+            assert_eq!(answer(&right, 545, ROW, wrong), refused(18, 0));
+            assert_eq!(answer(&right, STATE, ROW - 1, wrong), refused(20, 0));
+            assert_eq!(answer(&right, STATE, ROW, wrong), refused(26, 0));
+        }
     });
 }

@@ -5,7 +5,7 @@ use dualrail::paper::walk::SET;
 use dualrail::paper::{kind_of_place, Kind, Paper, MOST_BYTES, MOST_LINES, ROW, SIX, STATE};
 use dualrail::plain::Plain;
 use dualrail::simon;
-use dualrail::{Answer, Dualrail, Layout, Library};
+use dualrail::{Answer, Dualrail, Layout, Library, Watch};
 use std::hint::black_box;
 use std::time::Instant;
 
@@ -24,13 +24,14 @@ struct Memory {
     bytes: Vec<u8>,
     numbers: Vec<u16>,
     state: Vec<u8>,
+    watches: Vec<Watch>,
 }
 
 impl Memory {
     fn new() -> Memory {
         let mut state = vec![0; STATE];
         Library.to_image(Layout::LOWEST, &simon::load(simon::KEY, simon::PLAINTEXT), &mut state);
-        Memory { bytes: vec![0; MOST_BYTES], numbers: vec![0; ROW * 65_535], state }
+        Memory { bytes: vec![0; MOST_BYTES], numbers: vec![0; ROW * 65_535], state, watches: vec![] }
     }
 }
 
@@ -157,6 +158,7 @@ fn runs(source: &[u16], expansion: &[u16]) {
          s,and,%r5+1,%r4+9,r16,\nu,lsr,r6,!r4+100,#3,\nu,beq,,!r5+0,#255,8\ns,not,%r4+77,%r4+76,,\nu,jmp,,,,0\n",
     );
     run("run, loop with indirect operands, 65,535", &looping);
+    watched_runs("that loop", &looping, [4, 6, 16, 32, 100, 160, 200, 543]);
     // The same with public places of all three forms in marked lines.
     let public = stored(
         "u,add,r4,r4,#1,\ns,xor,%r4+3,%r4+64,r4,\ns,and,%r5+1,!r4+6,%r4+9,\nu,add,!r4+5,!r4+6,r4,\n\
@@ -165,6 +167,18 @@ fn runs(source: &[u16], expansion: &[u16]) {
     run("run, loop with public bits, 65,535", &public);
     run("run, example cipher, 14,683 steps", source);
     run("run, its expansion, 61,579 steps", expansion);
+    watched_runs("that expansion", expansion, [1, 3, 4, 8, 16, 33, 160, 224]);
+}
+
+/// Request 09: a run with eight watches, on places that it writes often, now and then, or never, and one with none.
+fn watched_runs(name: &str, program: &[u16], places: [u16; 8]) {
+    let eight = places.map(|place| Watch { place, value: 0, writes: 0, step: 0 });
+    for (number, list) in [("eight watches", &eight[..]), ("no watches", &[])] {
+        measure(&format!("run watched, {number}, {name}"), 1.5, &|on, memory| {
+            memory.watches = list.to_vec();
+            on.run_watched(program, 0, 65_535, &mut memory.state, &mut memory.numbers, &mut memory.watches)
+        });
+    }
 }
 
 /// Gives the longer of the library's medians for the two steps.

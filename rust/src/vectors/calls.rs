@@ -3,7 +3,8 @@
 
 use super::parse::{self, Case};
 use super::Tested;
-use crate::answer::{Answer, Layout};
+use crate::answer::{Answer, Layout, Watch};
+use crate::generate::watch;
 use crate::lent::Lent;
 use crate::paper::walk::{MOST_VALUES, SET};
 use crate::paper::{ROW, SIX, STATE};
@@ -32,6 +33,10 @@ pub fn call(tested: &Tested, case: &Case) -> Result<Called, String> {
         "to-image" | "from-image" => (&["layout", "state", "room", "bytes"], image),
         "move" => (&["old", "new", "state", "room", "bytes"], image),
         "run" => (&["program", "stored", "state", "start", "budget", "room", "row", "changed"], run),
+        "run-watched" => (
+            &["program", "stored", "state", "start", "budget", "watch", "room", "row", "changed", "watched"],
+            run,
+        ),
         "walk" => (&["program", "stored", "values", "sets", "raw", "rest", "length", "budget"], walk),
         "take-in" | "send-out" => (&["text", "room", "out"], convert),
         "print-expansion" | "print-trace" => (&["text", "out"], print),
@@ -209,8 +214,8 @@ fn image(tested: &Tested, case: &Case) -> Result<Called, String> {
     called(case, answer, state.fault() + &lent.fault())
 }
 
-fn run(tested: &Tested, case: &Case) -> Result<Called, String> {
-    let program = program(tested, case)?;
+/// The state before a run, and what it must be afterwards.
+fn state_to_change(case: &Case) -> Result<Memory<u8>, String> {
     let mut state = Memory::new("state", &case.bytes("state")?, Random::byte);
     for changed in case.all("changed").iter().flat_map(|line| line.split(' ')) {
         let (place, value) = changed.split_once('=').ok_or("`changed` without =")?;
@@ -218,6 +223,11 @@ fn run(tested: &Tested, case: &Case) -> Result<Called, String> {
         *state.expected.part_mut().get_mut(place).ok_or("`changed` beyond the state")? =
             parse::number(value)?;
     }
+    Ok(state)
+}
+
+/// A store for a trace, and its rows.
+fn trace_store(case: &Case) -> Result<Memory<u16>, String> {
     let mut rows = vec![];
     for row in case.all("row") {
         let row: Vec<u16> = parse::list(row)?;
@@ -228,9 +238,47 @@ fn run(tested: &Tested, case: &Case) -> Result<Called, String> {
     }
     let mut trace = number_store(case)?;
     trace.expect(&rows)?;
+    Ok(trace)
+}
+
+/// The watches of a watched run, their fields besides the place being free, and what they must hold afterwards.
+fn watches(case: &Case) -> Result<Memory<Watch>, String> {
+    let mut rng = Random::new(2);
+    let places: Vec<u16> = parse::list(case.one("watch")?)?;
+    let watches: Vec<Watch> =
+        places.into_iter().map(|place| Watch { place, ..watch::any(&mut rng) }).collect();
+    let mut watches = Memory::new("watches", &watches, watch::any);
+    let held: Result<Vec<Watch>, String> = case.all("watched").into_iter().map(held_watch).collect();
+    watches.expect(&held?)?;
+    Ok(watches)
+}
+
+/// A watch with what it holds.
+fn held_watch(line: &str) -> Result<Watch, String> {
+    match parse::list(line)?[..] {
+        [place, value, writes, step] => {
+            let value = u8::try_from(value).map_err(|_| "`watched` with a value above 255")?;
+            Ok(Watch { place, value, writes, step })
+        }
+        _ => Err("`watched` is not four numbers".to_string()),
+    }
+}
+
+/// A run, with watches where the call has them.
+fn run(tested: &Tested, case: &Case) -> Result<Called, String> {
+    let program = program(tested, case)?;
+    let (mut state, mut trace) = (state_to_change(case)?, trace_store(case)?);
     let (start, budget) = (case.number("start")?, case.number("budget")?);
-    let answer = tested.library.run(program.part(), start, budget, state.part_mut(), trace.part_mut());
-    called(case, answer, program.fault() + &state.fault() + &trace.fault())
+    let (on, lines, lent) = (tested.library, program.part(), (state.part_mut(), trace.part_mut()));
+    let (answer, watched) = match case.one("call")? {
+        "run" => (on.run(lines, start, budget, lent.0, lent.1), String::new()),
+        _ => {
+            let mut watches = watches(case)?;
+            let answer = on.run_watched(lines, start, budget, lent.0, lent.1, watches.part_mut());
+            (answer, watches.fault())
+        }
+    };
+    called(case, answer, program.fault() + &state.fault() + &trace.fault() + &watched)
 }
 
 fn walk(tested: &Tested, case: &Case) -> Result<Called, String> {

@@ -14,7 +14,7 @@ pub fn variants() -> Vec<(String, Variant)> {
     whole.map(|variant| (format!("the bus: {}", variant.fault), variant)).chain(steps()).collect()
 }
 
-type Run = fn(&[u16], u16, u16, &mut [u8], &mut [u16]) -> Answer;
+pub type Run = fn(&[u16], u16, u16, &mut [u8], &mut [u16]) -> Answer;
 type Judge = fn(&[u16], &[u8], u16) -> Answer;
 
 // ---------------------------------------------------------------- steps
@@ -289,13 +289,18 @@ const AFTER: [(&str, After); 12] = [
     ("rows with distances 0", |_, _, _, row| row[6..].fill(0)),
 ];
 
-/// Each wrong step in runs and, where it can change a verdict, in walks.
-fn steps() -> Vec<(String, Variant)> {
+/// Every wrong step, with its name.
+pub fn faults() -> Vec<(&'static str, Fault)> {
     let rules = RULES.map(|(fault, rule)| (fault, Fault::Rule(rule)));
     let seen = SEEN.map(|(fault, seen)| (fault, Fault::Seen(seen)));
     let after = AFTER.map(|(fault, after)| (fault, Fault::After(after)));
+    [&rules[..], &seen, &after].concat()
+}
+
+/// Each of them in runs and, where it can change a verdict, in walks.
+fn steps() -> Vec<(String, Variant)> {
     let mut variants = vec![];
-    for (fault, step) in [&rules[..], &seen, &after].concat() {
+    for (fault, step) in faults() {
         variants.push((format!("the bus: {fault}"), Variant { fault, step: Some(step), ..RIGHT }));
         if !IN_RUNS_ALONE.contains(&fault) {
             let variant = Variant { fault, step_of_walks: Some(step), ..RIGHT };
@@ -353,7 +358,7 @@ fn run_on(handed: (&[u16], u16, u16), lent: (&mut [u8], &mut [u16]), goes_on: bo
     answer
 }
 
-const RUNS: [(&str, Run); 6] = [
+pub const RUNS: [(&str, Run); 6] = [
     ("not reset by a run", |program, start, budget, state, trace| {
         run_on((program, start, budget), (state, trace), true)
     }),
@@ -399,7 +404,7 @@ fn with_room(
     answer
 }
 
-const ROOMS: [(&str, Run); 7] = [
+pub const ROOMS: [(&str, Run); 7] = [
     ("20 by 6 x budget", |program, start, budget, state, trace| {
         let enough = trace.len() >= 6 * budget as usize;
         with_room((program, start, budget), (state, trace), enough)
