@@ -26,10 +26,11 @@ static void put_word(size_t place, unsigned word) {
     for (size_t bit = 0; bit < 16; bit++) state[place + bit] = word >> bit & 1;
 }
 
-/* A number that is too large for 16 bits names no place either. */
+/* A word that is no number, or one too large for 16 bits, names no place. */
 static uint16_t place_of(const char *word) {
-    int number = atoi(word);
-    return number < 0 || number > 65535 ? 65535 : number;
+    char *end;
+    long number = strtol(word, &end, 10);
+    return end == word || *end || number < 0 || number > 65535 ? 65535 : number;
 }
 
 int main(int count, char **words) {

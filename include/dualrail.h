@@ -75,8 +75,8 @@ typedef struct {
     uint16_t step;
 } dualrail_watch;
 
-/* A run with up to eight watches: answer, state and trace are those of dualrail_run. Two watches may name one place; what they held before,
- * their place aside, does not matter. Refusals 7, 3 to 6, 18, 20, then 26 at line 0: more than eight watches or a place above 543.
+/* A run with up to eight watches, none too: answer, state and trace are those of dualrail_run. Two watches may name one place; what they held
+ * before, their place aside, does not matter. Refusals 7, 3 to 6, 18, 20, then 26 at line 0: more than eight watches or a place above 543.
  *
  * Which step last wrote the ciphertext's first cell, cell 128, and which the round counter r4? (examples/watch.c is the whole program)
  *

@@ -7,10 +7,10 @@ use mathlib.Core.Option.{Option, none, some}
 use Prim.Native.Nat.{ℕ, zero, suc, _+_, _%_, _^_, _<_, _≤_}
 use native.Mathlib.Nat.{mod-eq-of-lt}
 use native.Mathlib.Omega.{arith}
-use lib.Dec.{eqb}
+use lib.Dec.{eqb, ltb}
 use lib.Seq.{getD-set-other}
 use lib.ListN.{length, getElem?, getD, set}
-use borrow.Author.Tests.{ne-eqb, eqb-true, eqb-false}
+use borrow.Author.Tests.{ne-eqb, eqb-false, lt-ltb, ltb-false}
 use Rattle.model.specs.declared.Line.{Line}
 use Rattle.model.specs.Places.{State, place}
 use Rattle.model.specs.Step.{result, next, after, busAfter}
@@ -18,7 +18,7 @@ use Rattle.model.specs.Run.{Ran, runOn}
 use Rattle.model.proofs.Runs.{step-run, stopped, run-zero}
 use Rattle.watch.specs.declared.Watch.{Watch}
 use Rattle.watch.specs.Watches.{placesWritten, writesTo, lastStep, watch, watched}
-use Rattle.watch.specs.Claims.{LastWrite}
+use Rattle.watch.specs.Claims.{OneEach, LastWrite}
 use Rattle.watch.specs.Turns.{noted}
 
 -- ---- one write more
@@ -49,9 +49,9 @@ unfolding lastStep
 last-more i j [] = refl
 last-more i j (k ∷ js) = rw (last-more i j js) (go (eqb i j))
   where
-    go : (u : Bool) → cond (eqb (cond u (suc (length js)) (lastStep i js)) 0) (cond (eqb i k) 1 0) (suc (cond u (suc (length js)) (lastStep i js)))
-        ≡ cond u (suc (suc (length js))) (cond (eqb (lastStep i js) 0) (cond (eqb i k) 1 0) (suc (lastStep i js)))
-    go true = rw (ne-eqb (suc (length js)) 0 (λ e. omega (arith, e)))
+    go : (u : Bool) → cond (ltb 0 (cond u (suc (length js)) (lastStep i js))) (suc (cond u (suc (length js)) (lastStep i js))) (cond (eqb i k) 1 0)
+        ≡ cond u (suc (suc (length js))) (cond (ltb 0 (lastStep i js)) (suc (lastStep i js)) (cond (eqb i k) 1 0))
+    go true = rw (lt-ltb 0 (suc (length js)) (omega arith))
     go false = refl
 
 -- a watch that was up to date is so again once the next write is noted
@@ -104,6 +104,22 @@ pub one-written : (p : List Line) (n k : ℕ) (s : State) (l : Line) → getElem
 unfolding placesWritten
 one-written p n k s l e = rw (e, placesWritten)
 
+-- ---- one place for each step
+
+module _ (p : List Line) where
+  one-each-on : (n k : ℕ) (s : State) (b : ℕ) → length (placesWritten p n k s) ≡ length (runOn p n k s b .rows)
+  unfolding placesWritten
+  one-each-on zero k s b = ap (λ (x : Ran). length (x .rows)) (sym (run-zero p k s b))
+  one-each-on (suc n) k s b = by-line (getElem? p k) refl (λ l. one-each-on n (next l k s) (after l s) (busAfter l s b))
+    where
+      by-line : (o : Option Line) → getElem? p k ≡ o → ((l : Line) → length (placesWritten p n (next l k s) (after l s)) ≡ length (runOn p n (next l k s) (after l s) (busAfter l s b) .rows))
+          → length (placesWritten p (suc n) k s) ≡ length (runOn p (suc n) k s b .rows)
+      by-line none e rest = ap (λ (js : List ℕ). length js) (none-written p (suc n) k s e) ∙ sym (ap (λ (x : Ran). length (x .rows)) (stopped p k s b e (suc n)))
+      by-line (some l) e rest = ap (λ (js : List ℕ). length js) (one-written p n k s l e) ∙ ap suc (rest l) ∙ sym (ap (λ (x : Ran). length (x .rows)) (step-run p k s b l e n))
+
+pub one-each : OneEach
+one-each p n k s = one-each-on p n k s 0
+
 -- ---- a place's last value is the one that its last write left
 
 module _ (p : List Line) (i : ℕ) where
@@ -124,12 +140,13 @@ module _ (p : List Line) (i : ℕ) where
     by-place l e true f = one-step k s b l e 0 ∙ no-steps (next l k s) (after l s) (busAfter l s b)
     by-place l e false f = no-steps k s b ∙ sym (ap (λ (u : State). getD u i 0) (set-after l s) ∙ getD-set-other s (place (l .destination) s) i (result l s) 0 (eqb-false i _ f))
 
-    by-later : (l : Line) → getElem? p k ≡ some l → (m : ℕ) → m ≡ lastStep i (placesWritten p n (next l k s) (after l s)) → (t : Bool) → eqb m 0 ≡ t
-        → valueAfter (cond t (cond (eqb i (place (l .destination) s)) 1 0) (suc m)) k s b ≡ valueAfter (suc n) k s b
-    by-later l e m q true f =
-        by-place l e (eqb i (place (l .destination) s)) refl ∙ sym (no-steps (next l k s) (after l s) (busAfter l s b))
-        ∙ ap (λ (j : ℕ). valueAfter j (next l k s) (after l s) (busAfter l s b)) (sym (eqb-true m 0 f) ∙ q) ∙ rest l ∙ sym (one-step k s b l e n)
+    by-later : (l : Line) → getElem? p k ≡ some l → (m : ℕ) → m ≡ lastStep i (placesWritten p n (next l k s) (after l s)) → (t : Bool) → ltb 0 m ≡ t
+        → valueAfter (cond t (suc m) (cond (eqb i (place (l .destination) s)) 1 0)) k s b ≡ valueAfter (suc n) k s b
     by-later l e m q false f =
+        let z : 0 ≡ m = omega (arith, ltb-false 0 m f) in
+        by-place l e (eqb i (place (l .destination) s)) refl ∙ sym (no-steps (next l k s) (after l s) (busAfter l s b))
+        ∙ ap (λ (j : ℕ). valueAfter j (next l k s) (after l s) (busAfter l s b)) (z ∙ q) ∙ rest l ∙ sym (one-step k s b l e n)
+    by-later l e m q true f =
         one-step k s b l e m ∙ ap (λ (j : ℕ). valueAfter j (next l k s) (after l s) (busAfter l s b)) q ∙ rest l ∙ sym (one-step k s b l e n)
 
     by-line : (o : Option Line) → getElem? p k ≡ o → valueAfter (lastStep i (placesWritten p (suc n) k s)) k s b ≡ valueAfter (suc n) k s b
@@ -139,7 +156,7 @@ module _ (p : List Line) (i : ℕ) where
         ∙ sym (ap (λ (x : Ran). getD (x .state) i 0) (stopped p k s b e (suc n)))
     by-line (some l) e =
         ap (λ (js : List ℕ). valueAfter (lastStep i js) k s b) (one-written p n k s l e)
-        ∙ by-later l e (lastStep i (placesWritten p n (next l k s) (after l s))) refl (eqb (lastStep i (placesWritten p n (next l k s) (after l s))) 0) refl
+        ∙ by-later l e (lastStep i (placesWritten p n (next l k s) (after l s))) refl (ltb 0 (lastStep i (placesWritten p n (next l k s) (after l s)))) refl
 
   last-value : (n k : ℕ) (s : State) (b : ℕ) → valueAfter (lastStep i (placesWritten p n k s)) k s b ≡ valueAfter n k s b
   unfolding placesWritten lastStep

@@ -4,7 +4,7 @@ use mathlib.Core.Path.{_≡_}
 use mathlib.Core.Bool.{false}
 use mathlib.Core.List.{List, [], _∷_, map}
 use Prim.Native.Nat.{ℕ}
-use lib.ListN.{getD}
+use lib.ListN.{length, getD}
 use Rattle.model.specs.declared.Line.{Line}
 use Rattle.model.specs.Answers.{done, refused, Outcome, outcome}
 use Rattle.model.specs.Places.{State}
@@ -17,7 +17,7 @@ use Rattle.watch.specs.Watches.{placesWritten, lastStep, unused, unwatch
 abbrev pub SameRun : Type 0
 SameRun = (p : List ℕ) (start budget : ℕ) (s : State) (t : List ℕ) (ws : List Watch) → unwatchable ws ≡ false → watchOutcome p start budget s t ws .run ≡ runOutcome p start budget s t
 
--- the same of a call with watches of these places and one without, which are lent these stores and leave those
+-- the same of two calls, one with watches of these places and one without: lent the same, they answer and leave the same
 abbrev pub SameCalls : List ℕ → List (List ℕ) → List (List ℕ) → Outcome → Outcome → Type 0
 SameCalls places lent lentAlone left leftAlone = unwatchable (map unused places) ≡ false → lent ≡ lentAlone → left ≡ leftAlone
 
@@ -35,6 +35,11 @@ placesOf ws = map (λ w. w .place) ws
 abbrev pub PlacesAlone : Type 0
 PlacesAlone = (p : List ℕ) (start budget : ℕ) (s : State) (t : List ℕ) (ws us : List Watch) (vs : List ℕ) → placesOf ws ≡ placesOf us → watchOutcome p start budget s t ws .run .answer ≡ done vs
     → watchOutcome p start budget s t ws ≡ watchOutcome p start budget s t us
+
+-- ---- one place is written for each step
+
+abbrev pub OneEach : Type 0
+OneEach = (p : List Line) (n k : ℕ) (s : State) → length (placesWritten p n k s) ≡ length (run p n k s .rows)
 
 -- ---- a place's last value is the one that its last write left: the run cut off after that step, or before the first where there is none,
 -- has it already

@@ -23,7 +23,7 @@ noted s q k w =
     cond (eqb k 0) (watch (w .place) (getD s (w .place) 0) 0 0)
     (cond (eqb (w .place) q) (watch (w .place) (getD s (w .place) 0) ((w .writes + 1) % 2 ^ 16) k) w)
 
--- whether it changes the watch
+-- whether it may change the watch
 abbrev pub concerns : ℕ → ℕ → Watch → Bool
 concerns q k w = eqb k 0 || eqb (w .place) q
 

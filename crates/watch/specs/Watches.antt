@@ -28,17 +28,17 @@ unfoldable pub writesTo : ℕ → List ℕ → ℕ
 writesTo i [] = 0
 writesTo i (j ∷ js) = cond (eqb i j) (suc (writesTo i js)) (writesTo i js)
 
--- the step of the last one: 0 for none, the first step is 1
+-- the step of the last one, 0 for none, the first step is 1: a later write goes before this one, and is one step further than in the rest
 unfoldable pub lastStep : ℕ → List ℕ → ℕ
 lastStep i [] = 0
-lastStep i (j ∷ js) = cond (eqb (lastStep i js) 0) (cond (eqb i j) 1 0) (suc (lastStep i js))
+lastStep i (j ∷ js) = cond (ltb 0 (lastStep i js)) (suc (lastStep i js)) (cond (eqb i j) 1 0)
 
 -- ---- watches
 
 abbrev pub watch : ℕ → ℕ → ℕ → ℕ → Watch
 watch place value writes step = record { place = place; value = value; writes = writes; step = step }
 
--- a watch of a place that no run has used
+-- a fresh watch of a place
 abbrev pub unused : ℕ → Watch
 unused place = watch place 0 0 0
 
@@ -49,6 +49,7 @@ watched js s w = watch (w .place) (getD s (w .place) 0) (writesTo (w .place) js)
 abbrev pub maxWatches : ℕ
 maxWatches = 8
 
+-- some place is above 543
 unfoldable pub somePast : List Watch → Bool
 somePast [] = false
 somePast (w ∷ ws) = leb stateSize (w .place) || somePast ws
@@ -68,16 +69,18 @@ pub record Watched : Type 0 where
 abbrev pub both : Outcome → List Watch → Watched
 both run watches = record { run = run; watches = watches }
 
-abbrev pub ifDone : Report → Watched → Watched → Watched
-ifDone (done values) next else = next
-ifDone (refused number line) next else = else
+-- what comes of a run that is refused, and of one that is not
+abbrev pub byAnswer : Report → Watched → Watched → Watched
+byAnswer (refused number line) turnedDown ran = turnedDown
+byAnswer (done values) turnedDown ran = ran
 
--- refused as `run`, then 26 at line 0, and then the watches are as they were; else as `run` leaves it
+-- refused as `run`, then with 26 at line 0: state, trace and watches stay. Else answer, state and trace are those of `run`, and each watch is
+-- what the places written and the last state make of it
 unfoldable pub watchOutcome : List ℕ → ℕ → ℕ → State → List ℕ → List Watch → Watched
 unfolding placesWritten unwatchable runOutcome
 watchOutcome p start budget state trace watches =
-    ifDone (runOutcome p start budget state trace .answer)
+    let alone = runOutcome p start budget state trace in
+    byAnswer (alone .answer) (both alone watches)
     (cond (unwatchable watches)
     (both (outcome (refused 26 0) (state ∷ trace ∷ [])) watches)
-    (both (runOutcome p start budget state trace) (map (watched (placesWritten (lines p) budget start state) (run (lines p) budget start state .state)) watches)))
-    (both (runOutcome p start budget state trace) watches)
+    (both alone (map (watched (placesWritten (lines p) budget start state) (run (lines p) budget start state .state)) watches)))

@@ -58,7 +58,7 @@ fn noted(w: Watch, state: &[u8], place: usize, step: u16) -> Watch
     w
 }
 
-// Whether `noted` changes the watch. Most steps concern none, and asking first is quicker than writing each watch again.
+// Whether `noted` may change the watch. Most steps concern none, and asking first is quicker than writing each watch again.
 fn concerns(w: Watch, place: usize, step: u16) -> bool
     ensures { λ r. ⌜ r ≡ concerns place step w ⌝ }
 {
@@ -234,7 +234,7 @@ pub fn run_watched(
     told(checked, t)
 }
 
-// A watch of a place that no run has used.
+// A fresh watch of a place.
 fn unused(place: u16) -> Watch
     ensures { λ r. ⌜ r ≡ unused place ⌝ }
 {
