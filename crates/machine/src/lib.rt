@@ -522,7 +522,7 @@ fn perform(
 }
 
 // What a step answers that tells the written place too, past the state where there is none.
-struct Seen {
+struct DoneSeen {
     next: u16,
     bus: u16,
     place: usize,
@@ -543,7 +543,7 @@ fn perform_seen(
     masks: &[u8; PLACES],
     weights: &[u16; PLACES],
     state: &mut [u8],
-) -> Seen
+) -> DoneSeen
     requires { ⌜ (counter < 65535) × Masks (now masks) × Weights (now weights) × (bus < addresses) ⌝ }
     ensures { λ r. ⌜ (r .next ≡ next (lineOf m o d a b t) counter (now (state .entry))) × (r .row ≡ row (lineOf m o d a b t) counter (now (state .entry)) bus) ⌝ }
     ensures { λ r. ⌜ (r .bus ≡ busAfter (lineOf m o d a b t) (now (state .entry)) bus) × (r .bus < addresses) ⌝ }
@@ -561,7 +561,7 @@ fn perform_seen(
     let r = replace(d, result, state);
     let destination = put_on_bus(d, r.at, second.bus, weights);
     let row = row_of(counter, r.old, result, first, second, destination, weights);
-    Seen {
+    DoneSeen {
         next,
         bus: destination.bus,
         place: r.at,
