@@ -558,13 +558,21 @@ fn perform_seen(
     let result = alu(mark, o, args.first, args.second);
     let jumps = is_taken(o, args.first, args.second);
     let next = advanced(jumps, target_line(t), counter);
-    let r = replace(d, result, state);
-    let destination = put_on_bus(d, r.at, second.bus, weights);
-    let row = row_of(counter, r.old, result, first, second, destination, weights);
+    let written = replace(d, result, state);
+    let destination = put_on_bus(d, written.at, second.bus, weights);
+    let row = row_of(
+        counter,
+        written.old,
+        result,
+        first,
+        second,
+        destination,
+        weights,
+    );
     DoneSeen {
         next,
         bus: destination.bus,
-        place: r.at,
+        place: written.at,
         row,
     }
 }

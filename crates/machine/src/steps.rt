@@ -76,10 +76,10 @@ impl Run {
         ensures { λ r. ⌜ (r .bus < addresses) × (r .place ≡ place (lineAt (now (program .entry)) (self .counter) .destination) (now (state .entry))) ⌝ }
     {
         let counter = self.counter;
-        let steps = self.steps;
+        let tally = self.steps;
         let bus = self.bus;
         let n = coding::numbers_at(program, counter as usize);
-        let done = super::perform_seen(
+        let seen = super::perform_seen(
             n[0],
             n[1],
             n[2],
@@ -92,13 +92,13 @@ impl Run {
             weights,
             state,
         );
-        let row = done.row;
-        super::write_row(trace, steps as usize, row);
+        let row = seen.row;
+        super::write_row(trace, tally as usize, row);
         Stepped {
-            counter: done.next,
-            steps: steps + 1,
-            bus: done.bus,
-            place: done.place,
+            counter: seen.next,
+            steps: tally + 1,
+            bus: seen.bus,
+            place: seen.place,
         }
     }
 }
