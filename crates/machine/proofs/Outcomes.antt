@@ -13,19 +13,16 @@ use Rattle.model.specs.Answers.{Report, report, counted, refused, Outcome, outc
 use Rattle.model.specs.Stored.{lines, lineCount, programCheck}
 use Rattle.model.specs.Run.{run, runLeaves, runOutcome}
 use Rattle.model.proofs.OutcomeLaws.{never-done, run-outcome}
-use Rattle.model.proofs.CheckAnswers.{CountOrRefusal, counts, refuses, either, program-answers, NoCount, Refusal, no-count-refuses, handed-on}
+use Rattle.model.proofs.CheckAnswers.{CountOrRefusal, counts, refuses, either, then-answers, program-answers, NoCount, no-count-refuses, refusal-stands, handed-on}
 use Rattle.machine.specs.Loop.{machine, admission, runFrom}
 use Rattle.machine.proofs.Traces.{run-leaves}
 
 -- ---- what is asked before a run
 
-pub stops-there : {r : Report} → Refusal r → (x : Report) → r ≡ andThen r x
-stops-there f x = rw (f .is)
-
 module _ (p : List ℕ) (budget size room : ℕ) where
   pub no-program : (a : Answer) → NoCount a → report a ≡ programCheck p → report a ≡ admission p budget size room
   unfolding admission
-  no-program a h e = e ∙ stops-there (no-count-refuses a h (program-answers p) e) _
+  no-program a h e = e ∙ refusal-stands (no-count-refuses a h (program-answers p) e) _
 
   module _ (n : ℕ) (e : programCheck p ≡ counted n) where
     pub no-state : (size ≡ stateSize → ⊥) → refused 18 0 ≡ admission p budget size room
@@ -43,11 +40,7 @@ module _ (p : List ℕ) (budget size room : ℕ) where
   -- a count or a refusal
   pub admission-answers : CountOrRefusal (admission p budget size room)
   unfolding admission
-  admission-answers = go (program-answers p)
-    where
-      go : CountOrRefusal (programCheck p) → CountOrRefusal (admission p budget size room)
-      go (counts n e) = rw e (either (eqb size stateSize) _ _ (either (ltb room (rowWidth * budget)) _ _ (refuses 20 0 refl) (counts n refl)) (refuses 18 0 refl))
-      go (refuses k l e) = rw e (refuses k l refl)
+  admission-answers = then-answers (programCheck p) _ (either (eqb size stateSize) _ _ (either (ltb room (rowWidth * budget)) _ _ (refuses 20 0 refl) (program-answers p)) (refuses 18 0 refl))
 
   -- what a count says
   pub record Admitted (n : ℕ) : Type 0 where
@@ -72,7 +65,7 @@ module _ (p : List ℕ) (budget size room : ℕ) where
 
       go : CountOrRefusal (programCheck p) → admission p budget size room ≡ counted n → Admitted n
       go (counts m q) e = by-state (eqb size stateSize) refl (sym (passes (programCheck p) _ m q) ∙ e)
-      go (refuses k l q) e = absurd (never-done (sym q ∙ stops-there (record { number = k; line = l; is = q }) _ ∙ e))
+      go (refuses k l q) e = absurd (never-done (sym q ∙ refusal-stands (record { number = k; line = l; is = q }) _ ∙ e))
 
 -- ---- the outcome of a run
 

@@ -122,12 +122,12 @@ pub record Refusal (r : Report) : Type 0 where
 pub count-told : {r : Report} {a : Answer} {n : ℕ} → a ≡ Count n → report a ≡ r → r ≡ counted n
 count-told q e = sym e ∙ ap report q
 
-never-counts : (n : ℕ) → NoCount (Count n) → ⊥
+pub never-counts : (n : ℕ) → NoCount (Count n) → ⊥
 never-counts n (inl e) = omega arith
 never-counts n (inr (inl e)) = omega arith
 never-counts n (inr (inr e)) = omega arith
 
-no-ending : {r : Report} (k i s : ℕ) → CountOrRefusal r → done (k ∷ i ∷ s ∷ []) ≡ r → ⊥
+pub no-ending : {r : Report} (k i s : ℕ) → CountOrRefusal r → done (k ∷ i ∷ s ∷ []) ≡ r → ⊥
 no-ending k i s (counts n e) q = let z : done (k ∷ i ∷ s ∷ []) ≡ done (n ∷ []) = q ∙ e in let w : _≡_ {A = ℕ} 0 1 = cc in omega arith
 no-ending k i s (refuses m l e) q = never-done (sym (q ∙ e))
 
@@ -136,6 +136,10 @@ no-count-refuses (Count n) h c e = absurd (never-counts n h)
 no-count-refuses (Halted i s) h c e = absurd (no-ending 0 i s c e)
 no-count-refuses (Spent i s) h c e = absurd (no-ending 1 i s c e)
 no-count-refuses (Refused k l) h c e = record { number = k; line = l; is = sym e }
+
+-- a refusal stands, whatever would be asked after it
+pub refusal-stands : {r : Report} → Refusal r → (x : Report) → r ≡ andThen r x
+refusal-stands f x = rw (f .is)
 
 -- a refusal leaves the stores as they are
 pub refusal-leaves : {r : Report} → Refusal r → (ss : List (List ℕ)) (x : Outcome) → outcome r ss ≡ unlessRefused r ss x

@@ -1,7 +1,7 @@
 -- Small laws of tests and of what they say, shared by the law files.
 -- Assumes nothing.
 use mathlib.Core.Path.{_≡_, refl, sym, subst}
-use mathlib.Core.Bool.{Bool, true, false, cond, _&&_, false≢true}
+use mathlib.Core.Bool.{Bool, true, false, cond, _&&_, _||_, false≢true}
 use mathlib.Core.Option.{none, some}
 use mathlib.Core.List.{List, [], _∷_}
 use Prim.Native.Nat.{ℕ, zero, suc, _≤_, _<_}
@@ -24,6 +24,10 @@ is-true false h = absurd h
 
 pub holds : {t : Bool} → t ≡ true → T t
 holds e = subst T (sym e) tt
+
+pub or-false : (x : Bool) → (x || false) ≡ x
+or-false true = refl
+or-false false = refl
 
 pub and-both : (x y : Bool) → T (x && y) → T x × T y
 and-both true y h = (tt, h)

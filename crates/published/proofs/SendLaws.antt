@@ -22,7 +22,7 @@ use Rattle.model.specs.Answers.{Report, report, done, refused, counted, outcome
 use Rattle.model.specs.Stored.{literals, registers, cells, publics, sensitives, tables, operandOf, targetOf, lineAt, lineOf, atLine, lineCount, lines, linesFrom}
 use Rattle.model.specs.Text.{newline, comma, decimal, spellOpcode, fitted}
 use Rattle.model.specs.Marks.{markCheck}
-use Rattle.model.proofs.TestLaws.{below, and-both, holds}
+use Rattle.model.proofs.TestLaws.{below, or-false, and-both, holds}
 use Rattle.model.proofs.StoredLaws.{operand-back, lines-length, length-lines, never-counted}
 use Rattle.model.proofs.DecimalLaws.{decimal-5}
 use Rattle.model.proofs.SpellingLaws.{opcode-3}
@@ -84,10 +84,6 @@ goes i t =
         (λ l. below (i + 1) t (λ m. ne-eqb (t - 1) i (λ e. omega arith) ∙ sym (ne-eqb t (i + 1) (λ e. omega arith))) (λ m. eq-eqb (t - 1) i (omega arith) ∙ sym (eq-eqb t (i + 1) (omega arith))))
 
 -- ---- the targets used, a line after the other
-
-or-false : (x : Bool) → (x || false) ≡ x
-or-false true = refl
-or-false false = refl
 
 or-more : (x y z : Bool) → ((x || y) || z) ≡ (x || (y || z))
 or-more true y z = refl

@@ -16,7 +16,7 @@ use Rattle.model.specs.Answers.{Report, report, refused, counted, andThen}
 use Rattle.model.specs.Step.{next}
 use Rattle.model.specs.Stored.{lineAt, lineCount, lines, programCheck}
 use Rattle.model.proofs.StoredLaws.{length-lines, get-line, no-line}
-use Rattle.model.proofs.CheckAnswers.{program-answers, NoCount, Refusal, no-count-refuses}
+use Rattle.model.proofs.CheckAnswers.{program-answers, NoCount, Refusal, no-count-refuses, refusal-stands}
 use Rattle.sets.specs.declared.Verdict.{Verdict}
 use Rattle.sets.specs.declared.Verdict.the-variants.{Balanced, Spent, Leak, Refused}
 use Rattle.walk.specs.declared.Move.{Move}
@@ -99,15 +99,12 @@ told-refusal (Halted′ k t) e f = let z : report (Halted′ k t) ≡ refused (f
 told-refusal (Spent′ k t) e f = let z : report (Spent′ k t) ≡ refused (f .number) (f .line) = e ∙ f .is in let w : _≡_ {A = ℕ} 0 1 = cc in absurd (omega arith)
 told-refusal (Refused′ n k) e f = refl
 
-hand-on : {r : Report} (x : Report) → Refusal r → r ≡ andThen r x
-hand-on x f = rw (f .is)
-
 module _ (p sets : List ℕ) (b : ℕ) where
   pub no-program : (a : Answer) (v : Verdict) → NoCount a → report a ≡ programCheck p → v ≡ refusalOf a → told v ≡ verdictReport p sets b
   unfolding verdictReport
   no-program a v h e q =
       let f = no-count-refuses a h (program-answers p) e in
-      ap told q ∙ told-refusal a e f ∙ e ∙ hand-on (told (judged (lines p) sets b)) f
+      ap told q ∙ told-refusal a e f ∙ e ∙ refusal-stands f (told (judged (lines p) sets b))
 
   -- the verdict by the two tests
   byTests : Bool → Bool → Report

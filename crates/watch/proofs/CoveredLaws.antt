@@ -1,9 +1,8 @@
 -- What the functions on plain values give: what is asked before a run, one watch, one turn, eight watches.
 -- Assumes nothing.
 use mathlib.Core.Path.{_≡_, refl, sym, ap, _∙_}
-use mathlib.Core.Bool.{Bool, true, false, cond, _||_}
+use mathlib.Core.Bool.{Bool, true, false, cond, _||_, false≢true}
 use mathlib.Core.List.{List, [], _∷_, map}
-use mathlib.Core.Logic.{inl, inr}
 use Prim.Native.Nat.{ℕ, _+_, _%_, _^_, _<_, _≤_}
 use native.Mathlib.Omega.{arith}
 use lib.Dec.{eqb}
@@ -15,10 +14,10 @@ use Rattle.model.specs.Limits.{stateSize}
 use Rattle.model.specs.Answers.{report, counted, halted, spent, refused}
 use Rattle.model.specs.Places.{State, place}
 use Rattle.model.specs.Stored.{lineAt, lineCount}
-use Rattle.model.proofs.CheckAnswers.{NoCount, no-count-refuses}
+use Rattle.model.proofs.CheckAnswers.{NoCount, never-counts, no-count-refuses, refusal-stands}
 use Rattle.machine.specs.declared.steps.Stepped.{Stepped}
 use Rattle.machine.specs.Loop.{Machine, machine, stepOf, runOf as steppedRun, admission as runAdmission}
-use Rattle.machine.proofs.Outcomes.{admission-answers, stops-there}
+use Rattle.machine.proofs.Outcomes.{admission-answers}
 use Rattle.watch.specs.declared.Watch.{Watch}
 use Rattle.watch.specs.declared.Turn.{Turn}
 use Rattle.watch.specs.Watches.{watch, unused}
@@ -29,7 +28,7 @@ use Rattle.watch.specs.Turns.{noted, concerns, admission, turn, begun, m
 module _ (p : List ℕ) (budget size room : ℕ) (wrong : Bool) where
   pub no-run : (a : Answer) → NoCount a → report a ≡ runAdmission p budget size room → report a ≡ admission p budget size room wrong
   unfolding admission
-  no-run a h e = e ∙ stops-there (no-count-refuses a h (admission-answers p budget size room) e) _
+  no-run a h e = e ∙ refusal-stands (no-count-refuses a h (admission-answers p budget size room) e) _
 
   pub no-watches : (n : ℕ) → runAdmission p budget size room ≡ counted n → wrong ≡ true → refused 26 0 ≡ admission p budget size room wrong
   unfolding admission
@@ -40,11 +39,6 @@ module _ (p : List ℕ) (budget size room : ℕ) (wrong : Bool) where
   passes n e f = rw (e, f)
 
 -- ---- the first moment and the answer
-
-never-counts : (n : ℕ) → NoCount (Count n) → ⊥
-never-counts n (inl e) = omega arith
-never-counts n (inr (inl e)) = omega arith
-never-counts n (inr (inr e)) = omega arith
 
 pub not-begun : (a : Answer) (start : ℕ) → NoCount a → turn false start 0 0 stateSize ≡ begun a start
 not-begun (Count n) start h = absurd (never-counts n h)
@@ -82,8 +76,8 @@ pub unconcerned : (s : State) (q k : ℕ) (w : Watch) → concerns q k w ≡ fal
 unconcerned s q k w = by-step (eqb k 0) (eqb (w .place) q)
   where
     by-step : (t u : Bool) → (t || u) ≡ false → cond t (watch (w .place) (getD s (w .place) 0) 0 0) (cond u (watch (w .place) (getD s (w .place) 0) ((w .writes + 1) % 2 ^ 16) k) w) ≡ w
-    by-step true u e = absurd (let z : _≡_ {A = ℕ} 1 0 = ap (λ (b : Bool). cond b 1 0) e in omega arith)
-    by-step false true e = absurd (let z : _≡_ {A = ℕ} 1 0 = ap (λ (b : Bool). cond b 1 0) e in omega arith)
+    by-step true u e = absurd (false≢true (sym e))
+    by-step false true e = absurd (false≢true (sym e))
     by-step false false e = refl
 
 -- ---- one turn

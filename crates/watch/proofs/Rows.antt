@@ -4,10 +4,12 @@ use mathlib.Core.Path.{_≡_, refl, sym, ap, _∙_}
 use mathlib.Core.Bool.{Bool, true, false, _||_}
 use mathlib.Core.List.{List, [], _∷_, map}
 use Prim.Native.Nat.{ℕ, zero, suc, _+_, _<_}
-use native.Mathlib.Nat.{add-suc, add-zero, not-suc-le-zero, le-of-suc-le-suc}
+use native.Mathlib.Nat.{not-suc-le-zero, le-of-suc-le-suc}
+use native.Mathlib.Omega.{arith}
 use lib.Dec.{ltb, leb}
 use lib.ListN.{length, set, getD}
 use Rattle.model.specs.Limits.{stateSize}
+use Rattle.model.proofs.TestLaws.{or-false}
 use Rattle.watch.specs.declared.Watch.{Watch}
 use Rattle.watch.specs.Watches.{unused, maxWatches, somePast, unwatchable}
 
@@ -16,7 +18,7 @@ abbrev pub nowhere : Watch
 nowhere = unused 0
 
 pub one-more : (i : ℕ) → i + 1 ≡ suc i
-one-more i = add-suc i zero ∙ ap suc (add-zero i)
+one-more i = omega arith
 
 module _ (f : Watch → Watch) where
   -- the first i watches changed
@@ -56,17 +58,13 @@ found-next i [] t l = absurd (not-suc-le-zero l)
 found-next zero (w ∷ ws) t l = refl
 found-next (suc i) (w ∷ ws) t l = found-next i ws (t || leb stateSize (w .place)) (le-of-suc-le-suc l)
 
-or-false : (t : Bool) → t ≡ (t || false)
-or-false true = refl
-or-false false = refl
-
 or-assoc : (t u v : Bool) → ((t || u) || v) ≡ (t || (u || v))
 or-assoc true u v = refl
 or-assoc false u v = refl
 
 found-past : (ws : List Watch) (t : Bool) → found (length ws) ws t ≡ (t || somePast ws)
 unfolding somePast
-found-past [] t = or-false t
+found-past [] t = sym (or-false t)
 found-past (w ∷ ws) t = found-past ws (t || leb stateSize (w .place)) ∙ or-assoc t (leb stateSize (w .place)) (somePast ws)
 
 pub found-all : (ws : List Watch) → found (length ws) ws (ltb maxWatches (length ws)) ≡ unwatchable ws

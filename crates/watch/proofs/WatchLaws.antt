@@ -3,7 +3,7 @@
 -- Assumes nothing.
 use mathlib.Core.Path.{_≡_, refl, sym, ap, subst, _∙_}
 use mathlib.Core.Bool.{Bool, true, false, cond, _||_}
-use mathlib.Core.List.{List, [], _∷_, _++_, map, append-assoc}
+use mathlib.Core.List.{List, [], _∷_, _++_, map, append-assoc, append-nil}
 use Prim.Native.Nat.{ℕ, suc, _+_, _-_, _*_, _^_, _<_, _≤_}
 use native.Mathlib.Omega.{arith}
 use lib.Dec.{ltb, leb}
@@ -20,7 +20,7 @@ use Rattle.model.specs.Step.{after}
 use Rattle.model.specs.Run.{Ran, runOn, run, answer, runLeaves, runOutcome}
 use Rattle.model.proofs.StoredLaws.{program-checked, get-line, no-line}
 use Rattle.model.proofs.OutcomeLaws.{never-done}
-use Rattle.model.proofs.CheckAnswers.{CountOrRefusal, counts, refuses, either, then-answers}
+use Rattle.model.proofs.CheckAnswers.{CountOrRefusal, counts, refuses, either, then-answers, no-ending}
 use Rattle.model.proofs.Runs.{step-run, stopped, run-zero}
 use Rattle.machine.specs.Loop.{machine, stepBy, stepOf, runFrom, admission as runAdmission}
 use Rattle.machine.proofs.Loops.{begins, halts, spends, goes-on}
@@ -103,14 +103,6 @@ module _ (p : List ℕ) (start budget : ℕ) (s t : List ℕ) (ws : List Watch) 
       go (counts m q) = by-watches m q (unwatchable ws) refl (rw q at e)
       go (refuses k′ l′ q) = same k′ l′ (rw q at e) (watch-refused k′ l′ (run-refused k′ l′ q))
 
-append-nil : (js : List ℕ) → js ≡ js ++ []
-append-nil [] = refl
-append-nil (j ∷ js) = ap (λ (u : List ℕ). j ∷ u) (append-nil js)
-
-no-ending : {r : Report} (k i j : ℕ) → CountOrRefusal r → done (k ∷ i ∷ j ∷ []) ≡ r → ⊥
-no-ending k i j (counts n e) q = let z : done (k ∷ i ∷ j ∷ []) ≡ done (n ∷ []) = q ∙ e in let w : _≡_ {A = ℕ} 0 1 = cc in omega arith
-no-ending k i j (refuses m l e) q = never-done (sym (q ∙ e))
-
 -- ---- the moments of a watched run
 
 -- what falls from turn to turn
@@ -190,7 +182,7 @@ module _ (p : List ℕ) (start budget : ℕ) (s₀ t₀ : List ℕ) (ws₀ : Lis
     ends-by : (vs : List ℕ) → ending (lineCount p) t ≡ done vs → outcome (done vs) (s ∷ tr ∷ []) ≡ runOutcome p start budget s₀ t₀ → placesWritten (lines p) (budget - t .steps) (t .counter) s ≡ []
         → runOn (lines p) (budget - t .steps) (t .counter) s (t .bus) .state ≡ s → Next (ended m)
     ends-by vs h e none-left stays _ =
-        let js-all = append-nil (i .js) ∙ ap (λ (u : List ℕ). i .js ++ u) (sym none-left) ∙ i .places in
+        let js-all = sym (append-nil (i .js)) ∙ ap (λ (u : List ℕ). i .js ++ u) (sym none-left) ∙ i .places in
         let last : s ≡ run (lines p) budget start s₀ .state = sym stays ∙ i .final in (
           ap (λ (c : Answer). both (outcome (told c (ended m .turn)) (s ∷ tr ∷ [])) ws′) (i .asked) ∙ ap (λ (r : Report). both (outcome r (s ∷ tr ∷ [])) ws′) h ∙ ap (λ (o : Outcome). both o ws′) e
               ∙ ap (λ (us : List Watch). both (runOutcome p start budget s₀ t₀) us) (i .seen ∙ ap (λ (u : List ℕ). map (watched u s) ws₀) js-all ∙ ap (λ (u : State). map (watched (placesWritten (lines p) budget start s₀) u) ws₀) last)
