@@ -1,0 +1,4 @@
+pub mod CodeLaws
+pub mod TableLaws
+pub mod MapLaws
+pub mod ResultLaws

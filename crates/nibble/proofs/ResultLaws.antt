@@ -1,0 +1,118 @@
+-- The claims of request 10: a result is the codeword of a nibble, or 0, which is none.
+-- Assumes nothing.
+use mathlib.Core.Path.{_≡_, refl, sym, ap, _∙_}
+use mathlib.Core.Bool.{Bool, true, false, cond, _&&_, false≢true}
+use mathlib.Core.List.{List, [], _∷_}
+use Prim.Native.Nat.{ℕ, zero, suc, _*_, _+_, _<_, _≤_}
+use native.Mathlib.Nat.{mul-comm}
+use native.Mathlib.Omega.{arith}
+use borrow.Author.Tests.{ltb-true, lt-ltb, eqb-true, ltb-false}
+use lib.Bits.{bitXor, xor-lt}
+use lib.Count.{ones, ones-cat}
+use lib.Dec.{eqb, ltb}
+use lib.ListN.{length, getD, replicate}
+use Rattle.model.specs.Answers.{Report, done, counted, refused, outcome, unlessRefused}
+use Rattle.model.proofs.OutcomeLaws.{never-done}
+use Rattle.model.proofs.TestLaws.{below}
+use Rattle.nibble.specs.Nibbles.{codeword, decoded, inCode, xorEntry, xorTable, mapEntry, mapTable, result, pairResult, firstAbove, mapOutcome}
+use Rattle.nibble.specs.Claims.{Result, XorEntries, XorResults, MapEntries, MapResults, SameWeights}
+use Rattle.nibble.proofs.CodeLaws.{coding, nibble-inside, outside-63}
+use Rattle.nibble.proofs.TableLaws.{entry-at, xor-at, past-63, within-63, first-past-63, second-past-63, both-within-63}
+
+-- the codeword of n, or 0
+coded-or-0 : (inside : Bool) (n : ℕ) → (inside ≡ true → n < 16) → Result inside n (cond inside (codeword n) 0)
+unfolding ones
+coded-or-0 false n h = record { outside = λ e. refl; exactly = λ e. refl; threeOnes = λ e. absurd (false≢true e); nibble = λ e. absurd (false≢true e) }
+coded-or-0 true n h =
+    let w = coding n (h refl) in
+    record {
+      outside = λ e. absurd (false≢true (sym e));
+      exactly = λ e. let q : _≡_ {A = ℕ} 0 3 = ap ones (sym e) ∙ w .threeOnes in absurd (omega arith);
+      threeOnes = λ e. w .threeOnes;
+      nibble = λ e. w .back;
+    }
+
+-- ---- the exclusive-or table
+
+-- looked up at any two operands
+pub xor-looked-up : (x y : ℕ) → pairResult xorTable x y ≡ xorEntry x y
+unfolding xorEntry
+xor-looked-up x y =
+    below x 64
+    (λ h. below y 64 (λ g. sym (both-within-63 xorTable x y h g) ∙ xor-at x y h g) (λ g. sym (second-past-63 xorTable x y h g) ∙ neither (inCode x) (inCode y) (outside-63 y g)))
+    (λ h. sym (first-past-63 xorTable x y h) ∙ rw (outside-63 x h))
+  where
+    neither : (s t : Bool) → t ≡ false → 0 ≡ cond (s && t) (codeword (bitXor (decoded x) (decoded y))) 0
+    neither true t e = rw e
+    neither false t e = refl
+
+pub xor-results : XorResults
+unfolding xorEntry
+xor-results x y = rw (xor-looked-up x y) (coded-or-0 (inCode x && inCode y) (bitXor (decoded x) (decoded y)) (λ e. both (inCode x) (inCode y) e refl refl))
+  where
+    both : (s t : Bool) → (s && t) ≡ true → inCode x ≡ s → inCode y ≡ t → bitXor (decoded x) (decoded y) < 16
+    both true true e p q = xor-lt 4 (decoded x) (decoded y) (ltb-true _ _ p) (ltb-true _ _ q)
+    both true false e p q = absurd (false≢true e)
+    both false t e p q = absurd (false≢true e)
+
+xor-coded : (a b : ℕ) → a < 16 → b < 16 → xorEntry (codeword a) (codeword b) ≡ codeword (bitXor a b)
+unfolding xorEntry
+xor-coded a b h g = rw (coding a h .back, coding b g .back, lt-ltb a 16 h, lt-ltb b 16 g)
+
+pub xor-entries : XorEntries
+xor-entries a b h g = xor-at (codeword a) (codeword b) (coding a h .sixBits) (coding b g .sixBits) ∙ xor-coded a b h g
+
+pub same-weights : SameWeights
+same-weights a b h g =
+    let v = coding a h in
+    let w = coding b g in
+    let inside : (inCode (codeword a) && inCode (codeword b)) ≡ true = rw (nibble-inside a h) (nibble-inside b g) in
+    record {
+      first = v .threeOnes;
+      second = w .threeOnes;
+      address = ap (λ (k : ℕ). ones (k + codeword b)) (mul-comm 64 (codeword a)) ∙ ones-cat 6 (codeword a) (codeword b) (w .sixBits) ∙ rw (v .threeOnes, w .threeOnes);
+      entry = xor-results (codeword a) (codeword b) .threeOnes inside;
+    }
+
+-- ---- maps
+
+none-above : (m : List ℕ) → length m ≤ firstAbove m → (k : ℕ) → getD m k 0 ≤ 15
+unfolding firstAbove
+none-above [] h k = omega arith
+none-above (v ∷ vs) h k = go (ltb 15 v) refl h (λ g. none-above vs g)
+  where
+    by : (k : ℕ) → v ≤ 15 → ((k : ℕ) → getD vs k 0 ≤ 15) → getD (v ∷ vs) k 0 ≤ 15
+    by zero e ih = e
+    by (suc k) e ih = ih k
+
+    go : (t : Bool) → ltb 15 v ≡ t → suc (length vs) ≤ cond t 0 (suc (firstAbove vs)) → (length vs ≤ firstAbove vs → (k : ℕ) → getD vs k 0 ≤ 15) → getD (v ∷ vs) k 0 ≤ 15
+    go true e g ih = absurd (omega arith)
+    go false e g ih = by k (ltb-false 15 v e) (ih (omega arith))
+
+-- a map that is not refused has no value above 15, and t is its table
+accepted : (m t vs : List ℕ) → mapOutcome m ≡ outcome (done vs) (t ∷ []) → ((k : ℕ) → getD m k 0 ≤ 15) × (t ≡ mapTable m)
+unfolding mapOutcome
+accepted m t vs e = go (eqb (length m) 16) (ltb (firstAbove m) 16) refl refl e
+  where
+    go : (s u : Bool) → eqb (length m) 16 ≡ s → ltb (firstAbove m) 16 ≡ u
+        → unlessRefused (cond s (cond u (refused 27 (firstAbove m)) (counted 64)) (refused 27 0)) (replicate 64 0 ∷ []) (outcome (counted 64) (mapTable m ∷ []))
+        ≡ outcome (done vs) (t ∷ []) → ((k : ℕ) → getD m k 0 ≤ 15) × (t ≡ mapTable m)
+    go true false p q e = let w = ap (λ o. o .stores) e in let l = eqb-true (length m) 16 p in let a = ltb-false (firstAbove m) 16 q in (none-above m (omega arith), cc)
+    go true true p q e = absurd (never-done (ap (λ o. o .answer) e))
+    go false u p q e = absurd (never-done (ap (λ o. o .answer) e))
+
+-- looked up at any operand
+map-looked-up : (m : List ℕ) (x : ℕ) → result (mapTable m) x ≡ mapEntry m x
+unfolding mapEntry
+map-looked-up m x =
+    below x 64 (λ h. sym (within-63 (mapTable m) x h) ∙ entry-at (mapEntry m) 64 x h) (λ h. sym (past-63 (mapTable m) x h) ∙ rw (outside-63 x h))
+
+pub map-results : MapResults
+unfolding mapEntry
+map-results m t answer x e vs d =
+    let w = accepted m t vs (e ∙ rw d) in
+    rw (w .1, map-looked-up m x) (coded-or-0 (inCode x) (getD m (decoded x) 0) (λ i. let g = w .0 (decoded x) in omega arith))
+
+pub map-entries : MapEntries
+unfolding mapEntry
+map-entries m a h = entry-at (mapEntry m) 64 (codeword a) (coding a h .sixBits) ∙ rw (coding a h .back, lt-ltb a 16 h)

@@ -1,0 +1,44 @@
+// Request 10, 'a table's result is 0 exactly for an operand outside the code, else it has three ones', said of the functions that run.
+// specs/Claims states it of an operand and a result, and the functions here, which make the calls, promise it.
+ghost use mathlib.Core.Path.{_≡_};
+ghost use Prim.Native.Nat.{_<_};
+ghost use Rattle.model.specs.Answers.{report};
+ghost use Rattle.nibble.specs.Claims.{XorResult, MapResult};
+use crate::decode;
+use crate::encode;
+use crate::look_up;
+use crate::map_table;
+use crate::xor;
+use model::Answer;
+
+// A nibble there and back.
+pub fn coded(n: u8) -> u8
+    ensures { λ r. ⌜ (n < 16 → r ≡ n) ⌝ }
+{
+    decode(encode(n))
+}
+
+// The exclusive-or table's result for any two operands.
+pub fn xor_result(a: u8, b: u8) -> u8
+    ensures { λ r. ⌜ XorResult a b r ⌝ }
+{
+    xor(a, b)
+}
+
+pub struct Looked {
+    pub answer: Answer,
+    pub result: u8,
+}
+
+// The result of a map's table for any operand.
+pub fn map_result(map: &[u8], c: u8) -> Looked
+    ensures { λ r. ⌜ MapResult (now (map .entry)) (report (r .answer)) c (r .result) ⌝ }
+{
+    let made = map_table(map);
+    let answer = made.answer;
+    let table = made.table;
+    Looked {
+        answer,
+        result: look_up(&table, c),
+    }
+}
