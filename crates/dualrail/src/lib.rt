@@ -13,8 +13,11 @@ ghost use Rattle.images.specs.Moving.{moveOutcome};
 ghost use Rattle.sets.specs.Walk.{told, verdictReport};
 ghost use Rattle.published.specs.Published.{takeInOutcome, sendOutOutcome, conversion};
 ghost use Rattle.watch.specs.Watches.{watchOutcome};
+ghost use Rattle.nibble.specs.Nibbles.{codeword, decoded, xorTable, result, pairResult, mapOutcome};
 ghost use Rattle.dualrail.specs.Packing.{placed, packed, packedRun};
 use model::Answer;
+use nibble::PAIRS;
+use nibble::WORDS;
 use published::Converted;
 use sets::Verdict;
 use watch::Watch;
@@ -212,4 +215,60 @@ pub extern "C" fn dualrail_judge(program: &[u16], sets: &[u8], budget: u16) -> u
     ensures { λ r. ⌜ r ≡ packedRun (verdictReport (now (program .entry)) (now (sets .entry)) budget) ⌝ }
 {
     pack_verdict(walk::judge(program, sets, budget))
+}
+
+// The nibble engine. A table that is handed back by value is written into a lent one of its length.
+
+#[no_mangle]
+pub extern "C" fn dualrail_encode(n: u8) -> u8
+    ensures { λ r. ⌜ r ≡ codeword n ⌝ }
+{
+    nibble::encode(n)
+}
+
+#[no_mangle]
+pub extern "C" fn dualrail_decode(c: u8) -> u8
+    ensures { λ r. ⌜ r ≡ decoded c ⌝ }
+{
+    nibble::decode(c)
+}
+
+#[no_mangle]
+pub extern "C" fn dualrail_xor(a: u8, b: u8) -> u8
+    ensures { λ r. ⌜ r ≡ pairResult xorTable a b ⌝ }
+{
+    nibble::xor(a, b)
+}
+
+#[no_mangle]
+pub extern "C" fn dualrail_xor_table(table: &mut [u8; PAIRS])
+    ensures { λ _. ⌜ now (table .exit) ≡ xorTable ⌝ }
+{
+    *table = nibble::xor_table();
+}
+
+#[no_mangle]
+pub extern "C" fn dualrail_map_table(map: &[u8], table: &mut [u8; WORDS]) -> u64
+    ensures { λ r. ⌜ r ≡ packed (mapOutcome (now (map .entry)) .answer) ⌝ }
+    ensures { λ _. ⌜ now (table .exit) ∷ [] ≡ mapOutcome (now (map .entry)) .stores ⌝ }
+{
+    let made = nibble::map_table(map);
+    let answer = made.answer;
+    let entries = made.table;
+    *table = entries;
+    pack(answer)
+}
+
+#[no_mangle]
+pub extern "C" fn dualrail_look_up(table: &[u8; WORDS], c: u8) -> u8
+    ensures { λ r. ⌜ r ≡ result (now (table .entry)) c ⌝ }
+{
+    nibble::look_up(table, c)
+}
+
+#[no_mangle]
+pub extern "C" fn dualrail_look_up_pair(table: &[u8; PAIRS], a: u8, b: u8) -> u8
+    ensures { λ r. ⌜ r ≡ pairResult (now (table .entry)) a b ⌝ }
+{
+    nibble::look_up_pair(table, a, b)
 }

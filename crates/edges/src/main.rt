@@ -1,6 +1,6 @@
 // The section Edges of document 01, the walk on sets of request 01, the shift counts of request 02, the public bits of request 03, the
 // layouts of request 04, the listings of jumps of request 05, the moves of request 06, the address bus of request 07, the published spelling of
-// request 08, the watches of request 09, and an input for every refusal: runs the cases of the file `stdin` beside src/, prints `ok` or `WRONG`
+// request 08, the watches of request 09, the nibble engine of request 10, and an input for every refusal: runs the cases of the file `stdin` beside src/, prints `ok` or `WRONG`
 // and the name of each, and the gate holds that to the file `stdout`. The cases are data, read beside the paper, and more cost no proof;
 // notation.rt has how they are written. All here is proved safe and ending; that the answers are right is the contract of what it calls.
 ghost use Prim.Native.Nat.{_≤_};
@@ -10,6 +10,7 @@ use crate::notation::CALL;
 use crate::notation::LARGEST;
 use crate::notation::NAME;
 use crate::notation::PROGRAM;
+use crate::notation::behind;
 use crate::notation::decimal;
 use crate::notation::field;
 use crate::notation::first;
@@ -19,13 +20,13 @@ use crate::notation::is_right;
 use crate::notation::is_seen;
 use crate::notation::is_text;
 use crate::notation::is_verdict;
-use crate::notation::layout;
 use crate::notation::least;
 use crate::notation::put;
 use crate::notation::put_sets;
 use crate::notation::size;
 use crate::notation::tail;
 use crate::notation::watched;
+use crate::notation::word;
 use model::Answer;
 use model::LINE_WIDTH;
 use model::MAX_LINES;
@@ -95,8 +96,8 @@ fn checks(line: &[u8], program: &[u16]) -> bool {
 fn expands(line: &[u8], program: &[u16], bytes: &mut [u8], store: &mut [u16]) -> bool {
     let room = size(line, 0, store.len());
     let answer = expander::expand(
-        layout(line, 1),
-        layout(line, 2),
+        behind(line, 1),
+        behind(line, 2),
         program,
         &mut store[0..room],
     );
@@ -158,8 +159,8 @@ fn image_of(line: &[u8], bits: &[u8], from: usize, image: &mut [u8], to: usize) 
     let n = least(from, bits.len());
     let m = least(to, image.len());
     images::to_image(
-        layout(line, 1),
-        layout(line, 2),
+        behind(line, 1),
+        behind(line, 2),
         &bits[0..n],
         &mut image[0..m],
     )
@@ -196,8 +197,8 @@ fn makes_bits(line: &[u8], state: &[u8], bits: &mut [u8]) -> bool {
     let from = size(line, 0, STATE_ROOM);
     let to = size(line, 1, bits.len());
     let answer = images::from_image(
-        layout(line, 1),
-        layout(line, 2),
+        behind(line, 1),
+        behind(line, 2),
         &image[0..from],
         &mut bits[0..to],
     );
@@ -210,10 +211,10 @@ fn moves_image(line: &[u8], state: &[u8], moved: &mut [u8]) -> bool {
     let from = size(line, 0, STATE_ROOM);
     let to = size(line, 1, moved.len());
     let answer = images::move_image(
-        layout(line, 1),
-        layout(line, 2),
-        layout(line, 3),
-        layout(line, 4),
+        behind(line, 1),
+        behind(line, 2),
+        behind(line, 3),
+        behind(line, 4),
         &image[0..from],
         &mut moved[0..to],
     );
@@ -253,6 +254,45 @@ fn sends_out(line: &[u8], input: &[u8], bytes: &mut [u8]) -> bool {
     is_right(line, answer, bytes, &[0u16; 0]) & is_text(line, bytes)
 }
 
+// ---- the nibble engine, by the word behind the call's name; a value is told as a count
+
+fn gives(line: &[u8], value: u8) -> bool {
+    is_right(line, Answer::Count(value as u32), b"", &[0u16; 0])
+}
+
+fn makes_xor_table(line: &[u8]) -> bool {
+    let table = nibble::xor_table();
+    is_right(line, Answer::Count(4096), &table, &[0u16; 0])
+}
+
+fn makes_map_table(line: &[u8], map: &[u8]) -> bool {
+    let made = nibble::map_table(map);
+    let answer = made.answer;
+    let table = made.table;
+    is_right(line, answer, &table, &[0u16; 0])
+}
+
+// Looks the operand up in the map's table.
+fn looks_up(line: &[u8], map: &[u8]) -> bool {
+    let made = nibble::map_table(map);
+    let table = made.table;
+    gives(line, nibble::look_up(&table, behind(line, 2)))
+}
+
+// The map is what so many registers hold.
+fn counts_nibbles(line: &[u8], state: &[u8]) -> bool {
+    let values = size(line, 0, state.len());
+    match first(word(line)) {
+        b'e' => gives(line, nibble::encode(behind(line, 2))),
+        b'd' => gives(line, nibble::decode(behind(line, 2))),
+        b'x' => gives(line, nibble::xor(behind(line, 2), behind(line, 3))),
+        b't' => makes_xor_table(line),
+        b'm' => makes_map_table(line, &state[0..values]),
+        b'l' => looks_up(line, &state[0..values]),
+        _ => false,
+    }
+}
+
 // ---- the cases
 
 // Makes the call that a case names; the first letter tells them apart. The arrays come in with their sizes, so that a proof of their
@@ -280,6 +320,7 @@ fn comes_out_on(
         b'j' => judges(line, program, bytes),
         b'p' => takes_in(line, field(line, PROGRAM), bytes),
         b's' => sends_out(line, field(line, PROGRAM), bytes),
+        b'n' => counts_nibbles(line, state),
         _ => false,
     }
 }

@@ -116,8 +116,13 @@ pub(super) fn least(n: usize, most: usize) -> usize
     if n <= most { n } else { most }
 }
 
-// Number n of those that stand behind the name of a call: two for its layout, of a move four; 0 where there is none.
-pub(super) fn layout(line: &[u8], n: usize) -> u8 {
+// The word behind the name of a call.
+pub(super) fn word(line: &[u8]) -> &[u8] {
+    part(field(line, CALL), 1, b' ')
+}
+
+// Number n of those that stand behind the name of a call: two for its layout, of a move four, else operands; 0 where there is none.
+pub(super) fn behind(line: &[u8], n: usize) -> u8 {
     least(decimal(part(field(line, CALL), n, b' ')), 255) as u8
 }
 
