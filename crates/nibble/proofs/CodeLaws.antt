@@ -1,7 +1,7 @@
 -- The code: what is finite is one test over the sixteen nibbles, or over the words of six bits.
 -- Assumes nothing.
 use mathlib.Core.Path.{_≡_, refl, sym, ap, _∙_}
-use mathlib.Core.Bool.{Bool, true, false, not, _&&_, _||_, false≢true}
+use mathlib.Core.Bool.{Bool, true, false, cond, _&&_, false≢true}
 use mathlib.Core.List.{List, [], _∷_}
 use Prim.Native.Nat.{ℕ, _+_, _*_, _<_, _≤_}
 use native.Mathlib.Omega.{arith}
@@ -42,7 +42,7 @@ nibble-inside n h = rw (coding n h .back) (lt-ltb n 16 h)
 -- ---- decoding
 
 abbrev back : ℕ → Bool
-back c = not (inCode c) || eqb (codeword (decoded c)) c
+back c = cond (inCode c) (eqb (codeword (decoded c)) c) (eqb (decoded c) 255)
 
 all-back : T (allBelow back 64)
 unfolding allBelow codeword decoded
@@ -65,17 +65,34 @@ pub above-63 : (c : ℕ) → 63 < c → decoded c ≡ 255
 unfolding decoded
 above-63 c h = not-among 0 codewords c tt h
 
-pub outside-63 : (c : ℕ) → 63 < c → inCode c ≡ false
+outside-63 : (c : ℕ) → 63 < c → inCode c ≡ false
 outside-63 c h = rw (above-63 c h)
 
 pub decoding : Decoding
-decoding c e =
-    below c 64 (λ h. eqb→eq (codeword (decoded c)) c (rw e at (all-below back 64 c all-back h)))
-    (λ h. absurd (false≢true (sym (outside-63 c h) ∙ e)))
+decoding c =
+    record {
+      inside = λ e. below c 64 (λ h. eqb→eq (codeword (decoded c)) c (rw e at (all-below back 64 c all-back h))) (λ h. absurd (false≢true (sym (outside-63 c h) ∙ e)));
+      outside = λ e. below c 64 (λ h. eqb→eq (decoded c) 255 (rw e at (all-below back 64 c all-back h))) (λ h. above-63 c h);
+      above63 = λ h. outside-63 c h;
+    }
 
 -- a word whose nibble is n is its codeword
 pub only-codeword : (c n : ℕ) → n < 16 → decoded c ≡ n → c ≡ codeword n
-only-codeword c n h e = sym (decoding c (rw e (lt-ltb n 16 h))) ∙ ap codeword e
+only-codeword c n h e = sym (decoding c .inside (rw e (lt-ltb n 16 h))) ∙ ap codeword e
+
+-- ---- there and back, of any word
+
+pub coded-again : (n : ℕ) → decoded (codeword n) ≡ cond (ltb n 16) n 255
+unfolding decoded
+coded-again n = below n 16 (λ h. coding n h .back ∙ rw (lt-ltb n 16 h)) (λ h. ap decoded (sym (above-15 n h)) ∙ rw (le-ltb n 16 h))
+
+pub decoded-again : (c : ℕ) → codeword (decoded c) ≡ cond (inCode c) c 0
+unfolding codeword
+decoded-again c = go (inCode c) refl
+  where
+    go : (t : Bool) → inCode c ≡ t → codeword (decoded c) ≡ cond t c 0
+    go true e = decoding c .inside e
+    go false e = ap codeword (decoding c .outside e)
 
 -- ---- the arms of `decode`
 

@@ -1,13 +1,13 @@
--- Req 10, 'The nibble engine': the (3,6)-code of source 001, which has six bits with three ones for a nibble, its exclusive-or table, and a
--- table for any map of nibbles.
+-- Req 10, 'The nibble engine': the (3,6)-code of source 001, which writes a nibble as six bits, three of them ones, its exclusive-or table,
+-- and a table for any map of nibbles.
 -- Assumes nothing.
-use mathlib.Core.Bool.{Bool, cond, _&&_}
+use mathlib.Core.Bool.{Bool, cond, not, _&&_}
 use mathlib.Core.List.{List, [], _∷_}
 use Prim.Native.Nat.{ℕ, zero, suc, _+_, _*_, _/_, _%_}
 use lib.Bits.{bitXor}
 use lib.Dec.{ltb, eqb}
 use lib.ListN.{length, getD, replicate}
-use Rattle.model.specs.Answers.{Report, counted, refused, Outcome, outcome, unlessRefused}
+use Rattle.model.specs.Answers.{Report, done, counted, refused, Outcome, outcome}
 
 -- ---- the code
 
@@ -19,7 +19,7 @@ codewords = 7 ∷ 11 ∷ 13 ∷ 14 ∷ 19 ∷ 21 ∷ 22 ∷ 25 ∷ 26 ∷ 28 ∷
 unfoldable pub codeword : ℕ → ℕ
 codeword n = getD codewords n 0
 
--- the nibble whose codeword is c, where these are the codewords of n and of those after it; 255 for none
+-- the nibble whose codeword is c, looked for among the codewords of n, n + 1 and so on; 255 where there is none
 unfoldable pub nibbleFrom : ℕ → List ℕ → ℕ → ℕ
 nibbleFrom n [] c = 255
 nibbleFrom n (w ∷ ws) c = cond (eqb c w) n (nibbleFrom (n + 1) ws c)
@@ -48,7 +48,7 @@ xorEntry x y = cond (inCode x && inCode y) (codeword (bitXor (decoded x) (decode
 abbrev pub xorTable : List ℕ
 xorTable = entries (λ k. xorEntry (k / 64) (k % 64)) 0 4096
 
--- the entry of a map's table: C(m(a)) at C(a), 0 in unused entries
+-- the entry of the table of a map of 16 values: C(m(a)) at C(a), 0 in unused entries
 unfoldable pub mapEntry : List ℕ → ℕ → ℕ
 unfolding codeword decoded
 mapEntry m x = cond (inCode x) (codeword (getD m (decoded x) 0)) 0
@@ -73,15 +73,19 @@ unfoldable pub firstAbove : List ℕ → ℕ
 firstAbove [] = 0
 firstAbove (v ∷ vs) = cond (ltb 15 v) 0 (suc (firstAbove vs))
 
--- 27: a map not of 16 values, at index 0, else the first value above 15, at its index
+-- 27: a map not of 16 values, at index 0, else the first value above 15, at its index; success counts the table's entries
 unfoldable pub mapCheck : List ℕ → Report
 unfolding firstAbove
 mapCheck m =
-    cond (eqb (length m) 16)
+    cond (not (eqb (length m) 16)) (refused 27 0)
     (cond (ltb (firstAbove m) 16) (refused 27 (firstAbove m)) (counted 64))
-    (refused 27 0)
 
--- the answer, and the table, 0 in all entries after a refusal
+-- a table handed back is 0 in all entries after a refusal
+abbrev pub handedBack : Report → List ℕ → List ℕ
+handedBack (done values) t = t
+handedBack (refused number index) t = replicate 64 0
+
+-- the answer, and the table in the place of a lent store
 unfoldable pub mapOutcome : List ℕ → Outcome
 unfolding mapCheck entries mapEntry
-mapOutcome m = unlessRefused (mapCheck m) (replicate 64 0 ∷ []) (outcome (counted 64) (mapTable m ∷ []))
+mapOutcome m = outcome (mapCheck m) (handedBack (mapCheck m) (mapTable m) ∷ [])

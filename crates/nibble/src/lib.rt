@@ -11,11 +11,13 @@ use table::XOR_TABLE;
 pub mod results;
 mod table;
 
-// How many values a map of nibbles has, and how many entries its table.
+// How many values a map of nibbles has.
 const NIBBLES: usize = 16;
 
+// How many entries its table has: one for each word of six bits.
 pub const WORDS: usize = 64;
-// How many entries the exclusive-or table has: one for two operands.
+
+// How many entries the exclusive-or table has: one for each pair of words.
 pub const PAIRS: usize = 4096;
 
 // C of 0 to 15.
@@ -101,7 +103,7 @@ pub fn look_up_pair(table: &[u8; PAIRS], a: u8, b: u8) -> u8
 
 // ---- the exclusive-or table
 
-// The whole table. Whoever looks up often keeps it, since the constant is made anew at each use.
+// The whole table. Keep it where you look up often: the constant is made anew at each use.
 pub fn xor_table() -> [u8; PAIRS]
     ensures { λ r. ⌜ r ≡ xorTable ⌝ }
 {
@@ -146,8 +148,8 @@ fn fill(map: &[u8]) -> [u8; WORDS]
     let mut table = [0u8; WORDS];
     let mut a = 0u8;
     while a < 16 {
-        let c = encode(a);
-        table[c as usize] = encode(map[a as usize]);
+        let at = encode(a) as usize;
+        table[at] = encode(map[a as usize]);
         a += 1;
     }
     table

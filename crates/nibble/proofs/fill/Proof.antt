@@ -22,6 +22,9 @@ loop-holds c = (omega arith, none-filled _)
 encode-requires : tie.Need-encode-requires Inv-loop μ-loop
 encode-requires c κs = search needs
 
+cast-at : tie.Need-cast-at Inv-loop μ-loop
+cast-at c = search needs
+
 cast-encode : tie.Need-cast-encode Inv-loop μ-loop
 cast-encode c = search needs
 
@@ -30,9 +33,6 @@ shared-slice-read-encode c = search needs
 
 encode-requires-2 : tie.Need-encode-requires-2 Inv-loop μ-loop
 encode-requires-2 c κs = search needs
-
-cast-table : tie.Need-cast-table Inv-loop μ-loop
-cast-table c = search needs
 
 array-write-table : tie.Need-array-write-table Inv-loop μ-loop
 array-write-table c = let h : c .before .before .encode .result < 64 = rw (c .before .before .encode .ensures) (six-bits (c .before .before .before .before .loop .a)) in search needs
@@ -57,10 +57,10 @@ fill-spec =
     μ-loop
     loop-holds
     encode-requires
+    cast-at
     cast-encode
     shared-slice-read-encode
     encode-requires-2
-    cast-table
     array-write-table
     add-a
     loop-less

@@ -3,7 +3,7 @@
 use mathlib.Core.Path.{ap, _∙_}
 use borrow.Author.Needs.{needs}
 use Rattle.nibble.specs.Nibbles.{decoded}
-use Rattle.nibble.proofs.CodeLaws.{coding}
+use Rattle.nibble.proofs.CodeLaws.{coded-again}
 use Rattle.nibble.proofs.results.coded.Statement.{statement}
 use Rattle.nibble.proofs.results.coded.Tie as tie
 
@@ -14,7 +14,7 @@ decode-requires : tie.Need-decode-requires
 decode-requires c κs = search needs
 
 returns : tie.Need-returns
-returns c = λ h. c .decode .ensures ∙ ap decoded (c .before .encode .ensures) ∙ coding _ h .back
+returns c = c .decode .ensures ∙ ap decoded (c .before .encode .ensures) ∙ coded-again _
 
 pub coded-spec : {M : Type 1} → statement M
 coded-spec = tie.close (tie.spec encode-requires decode-requires returns)
