@@ -12,11 +12,11 @@
  * with one between. An expansion runs on images of its own layout; nothing in the 544 bytes names it but the codes. Other numbers are
  * refused with 23 at line 0, before all else.
  *
- * An answer is one number. Of all functions but the last three: number * 2^32 + value, where number 0 is success and value its count, and
- * any other number is a refusal and value its line; a line beyond 2^32 - 1, which a published text may have, is given as 2^32 - 1. Of
- * dualrail_run, dualrail_run_watched and dualrail_judge: ending * 2^32 + counter * 2^16 + steps, ending 0 halted or balanced, 1 spent and 2 a
- * leak, with its line for the counter, or, refused, number * 2^48 + line. A refusal leaves all lent memory as it was, except that a refused
- * reading leaves the lines before the bad one in the store.
+ * An answer is one number of 64 bits. Of dualrail_run, dualrail_run_watched and dualrail_judge: ending * 2^32 + counter * 2^16 + steps, ending 0
+ * halted or balanced, 1 spent and 2 a leak, with its line for the counter, or, refused, number * 2^48 + line. Of all others: number * 2^32 +
+ * value, where number 0 is success and value its count, and any other number is a refusal and value its line; a line beyond 2^32 - 1, which a
+ * published text may have, is given as 2^32 - 1. A refusal leaves all lent memory as it was, except that a refused reading leaves the lines
+ * before the bad one in the store, and that the table of a refused map is 0.
  */
 #ifndef DUALRAIL_H
 #define DUALRAIL_H
@@ -92,6 +92,38 @@ uint64_t dualrail_run_watched(const uint16_t *program, size_t program_length, ui
  * with that budget and end so, a leak gives the first line where two choices show different rows. The sets are only read. Refusals 7,
  * 3 to 6, 18, 22 at line 0; then at a step 21, 22. */
 uint64_t dualrail_judge(const uint16_t *program, size_t program_length, const uint8_t *sets, size_t sets_length, uint16_t budget);
+
+/* The nibble engine: C of 0 to 15 is 7, 11, 13, 14, 19, 21, 22, 25, 26, 28, 35, 37, 38, 41, 42, 44, six bits each with three ones.
+ *
+ * One AES column with the round key added, eight nibbles on codewords (examples/addroundkey.c is the whole program):
+ *
+ *     static uint8_t table[4096];
+ *     dualrail_xor_table(table);
+ *     for (int i = 0; i < 8; i++) state[i] = dualrail_look_up_pair(table, state[i], key[i]);
+ */
+
+/* Codes a nibble: C(n), 0 above 15. */
+uint8_t dualrail_encode(uint8_t n);
+
+/* Decodes a codeword: its nibble, 255 outside the code. */
+uint8_t dualrail_decode(uint8_t c);
+
+/* The exclusive-or table's result for two operands: C(a xor b) for C(a) and C(b), 0 where either is outside the code, so for any above 63. The
+ * table is made for each call; whoever looks up often has it written once and looks up there. */
+uint8_t dualrail_xor(uint8_t a, uint8_t b);
+
+/* Writes the exclusive-or table, C(a xor b) at 64 * C(a) + C(b), 0 with a wrong half, into memory for 4,096 entries. */
+void dualrail_xor_table(uint8_t table[4096]);
+
+/* Makes the table of a map of nibbles, given by its 16 values: C(m(a)) at C(a), 0 in all other entries; counts 64 entries. Refusal 27: another
+ * count of values, at 0, else the first value above 15, at its index; the table is then all 0. */
+uint64_t dualrail_map_table(const uint8_t *map, size_t map_length, uint8_t table[64]);
+
+/* The result of a map's table for an operand: 0 exactly where it is outside the code, so for any above 63. */
+uint8_t dualrail_look_up(const uint8_t table[64], uint8_t c);
+
+/* The result of a table of 4,096 entries for two operands, 0 where either is above 63. */
+uint8_t dualrail_look_up_pair(const uint8_t table[4096], uint8_t a, uint8_t b);
 
 #ifdef __cplusplus
 }
