@@ -1,19 +1,19 @@
 -- A map's table: what it is checked for, and how it is filled, one nibble after the other.
 -- Assumes nothing.
-use mathlib.Core.Path.{_≡_, refl, sym, ap, _∙_}
-use mathlib.Core.Bool.{true, false, cond}
+use mathlib.Core.Path.{_≡_, refl, ap, _∙_}
+use mathlib.Core.Bool.{cond}
 use mathlib.Core.List.{List, [], _∷_}
 use Prim.Native.Nat.{ℕ, _+_, _<_, _≤_}
 use native.Mathlib.Decide.{ℕ-discrete}
 use native.Mathlib.Omega.{arith}
 use native.Mathlib.Numerals.{add-one}
 use borrow.Author.Tests.{eq-eqb, ne-eqb, lt-ltb, le-ltb}
-use lib.Dec.{ltb, eqb}
+use lib.Dec.{ltb}
 use lib.ListN.{length, getD, set, drop, replicate, drop-of-length-le, length-set}
 use lib.Seq.{getD-set-same, getD-set-other, drop-cons}
 use Rattle.model.proofs.TestLaws.{below}
 use Rattle.model.specs.Answers.{counted, refused, outcome}
-use Rattle.nibble.specs.Nibbles.{codeword, decoded, entries, mapEntry, mapTable, firstAbove, mapCheck, mapOutcome}
+use Rattle.nibble.specs.Nibbles.{codeword, decoded, entries, mapEntry, mapTable, firstAbove, mapOutcome}
 use Rattle.nibble.proofs.CodeLaws.{coding, only-codeword}
 use Rattle.nibble.proofs.TableLaws.{entry-at, all-entries, entries-length}
 

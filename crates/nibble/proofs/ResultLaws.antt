@@ -3,7 +3,7 @@
 use mathlib.Core.Path.{_≡_, refl, sym, ap, _∙_}
 use mathlib.Core.Bool.{Bool, true, false, cond, not, _&&_, false≢true}
 use mathlib.Core.List.{List, [], _∷_}
-use Prim.Native.Nat.{ℕ, zero, suc, _*_, _+_, _/_, _%_, _<_, _≤_}
+use Prim.Native.Nat.{ℕ, zero, suc, _+_, _/_, _%_, _<_, _≤_}
 use native.Mathlib.Nat.{mul-comm}
 use native.Mathlib.Omega.{arith}
 use borrow.Author.Tests.{ltb-true, lt-ltb, le-ltb, eqb-true, ltb-false}
@@ -15,7 +15,7 @@ use Rattle.model.specs.Answers.{done, counted, refused}
 use Rattle.model.proofs.OutcomeLaws.{never-done}
 use Rattle.model.proofs.TestLaws.{below}
 use Rattle.nibble.specs.Nibbles.{codeword, decoded, inCode, xorEntry, xorTable, mapEntry, mapTable, result, pairResult, firstAbove, mapCheck, handedBack, mapOutcome}
-use Rattle.nibble.specs.Claims.{Result, XorEntries, MapEntries, Maps, XorResults, MapResult, MapResults, Weights, SameWeights}
+use Rattle.nibble.specs.Claims.{Result, XorEntries, MapEntries, Maps, XorResults, MapResults, SameWeights}
 use Rattle.nibble.proofs.CodeLaws.{coding, nibble-inside, decoding}
 use Rattle.nibble.proofs.MapLaws.{not-sixteen, value-above, map-right}
 use Rattle.nibble.proofs.TableLaws.{entry-at, entries-length, xor-at, past-63, within-63, first-past-63, second-past-63, both-within-63}

@@ -2,17 +2,14 @@
 -- carried to whichever entry is looked up.
 -- Assumes nothing.
 use mathlib.Core.Path.{_≡_, refl, sym, ap, _∙_}
-use mathlib.Core.Bool.{true, false, cond, _&&_}
-use mathlib.Core.List.{List, [], _∷_}
+use mathlib.Core.List.{List}
 use Prim.Native.Nat.{ℕ, zero, suc, _+_, _*_, _/_, _%_, _<_}
 use native.Mathlib.Nat.{zero-add, add-zero}
 use native.Mathlib.Omega.{arith}
 use borrow.Author.Tests.{lt-ltb, le-ltb}
-use lib.Dec.{ltb}
 use lib.ListN.{length, getD}
 use lib.Seq.{ext-getD}
-use Rattle.model.proofs.TestLaws.{below}
-use Rattle.nibble.specs.Nibbles.{entries, xorEntry, xorTable, mapEntry, mapTable, result, pairResult}
+use Rattle.nibble.specs.Nibbles.{entries, xorEntry, xorTable, result, pairResult}
 
 -- ---- entries by a rule
 

@@ -1,10 +1,9 @@
 -- `nibble::fill` meets its contract. The table is that of the nibbles below a alone.
 -- Assumes nothing.
-use mathlib.Core.Path.{_≡_, sym, _∙_}
+use mathlib.Core.Path.{_≡_}
 use Prim.Native.Nat.{_<_, _≤_, _-_}
 use native.Mathlib.Omega.{arith}
 use borrow.Author.Needs.{needs}
-use Rattle.nibble.specs.Nibbles.{codeword}
 use Rattle.nibble.proofs.CodeLaws.{six-bits}
 use Rattle.nibble.proofs.MapLaws.{filled, none-filled, fill-turn, fill-end}
 use Rattle.nibble.proofs.fill.Statement.{statement}
