@@ -3,7 +3,7 @@
 /// The answer of an entry point.
 #[derive(Clone, Copy, Debug, PartialEq, Eq)]
 pub enum Answer {
-    /// Lines read, checked or expanded, or bytes written.
+    /// Lines read, checked or expanded, bytes written, or a table's entries.
     Counted(u32),
     /// A run that reached the end.
     Halted { counter: u16, steps: u16 },
@@ -13,12 +13,12 @@ pub enum Answer {
     Balanced { counter: u16, steps: u16 },
     /// A walk with two choices unlike: the line, and the steps done before.
     Leak { line: u16, steps: u16 },
-    /// A refusal: its number in the paper's table, and the line.
+    /// A refusal: its number in the paper's table, and the line, of a map the index.
     Refused { number: u16, line: u32 },
 }
 
 impl Answer {
-    /// Takes apart the answer of every exported function but the run's and the walk's.
+    /// Takes apart the packed answer of every exported function but the run's and the walk's.
     pub fn from_count(packed: u64) -> Answer {
         let value = packed as u32;
         match packed >> 32 {
@@ -113,7 +113,11 @@ pub struct Watch {
     pub step: u16,
 }
 
-/// The twelve entry points.
+/// The tables of request 10: of a map of nibbles, an entry for each operand; of two operands, 64 for each first one.
+pub type MapTable = [u8; 64];
+pub type PairTable = [u8; 4_096];
+
+/// The nineteen entry points.
 pub trait Dualrail {
     /// Reads a text into stored lines.
     fn read(&self, text: &[u8], store: &mut [u16]) -> Answer;
@@ -147,6 +151,19 @@ pub trait Dualrail {
     fn take_in(&self, text: &[u8], out: &mut [u8]) -> Answer;
     /// Turns text in our line form into published text.
     fn send_out(&self, text: &[u8], out: &mut [u8]) -> Answer;
+    /// The codeword of a nibble, 0 above 15.
+    fn encode(&self, nibble: u8) -> u8;
+    /// The nibble of a codeword, 255 outside the code.
+    fn decode(&self, word: u8) -> u8;
+    /// What the exclusive-or table gives for two operands.
+    fn xor(&self, first: u8, second: u8) -> u8;
+    /// Writes the exclusive-or table.
+    fn xor_table(&self, table: &mut PairTable);
+    /// Writes the table of a map of nibbles.
+    fn map_table(&self, map: &[u8], table: &mut MapTable) -> Answer;
+    /// What any table gives for an operand, and for two.
+    fn look_up(&self, table: &MapTable, word: u8) -> u8;
+    fn look_up_pair(&self, table: &PairTable, first: u8, second: u8) -> u8;
 }
 
 #[cfg(test)]
@@ -173,6 +190,7 @@ mod tests {
         assert_eq!(Answer::from_count(1_114_112), Counted(1_114_112));
         assert_eq!(Answer::from_count(7 << 32 | 32_768), Refused { number: 7, line: 32_768 });
         assert_eq!(Answer::from_count(25 << 32 | 0xffff_ffff), Refused { number: 25, line: 4_294_967_295 });
+        assert_eq!(Answer::from_count(27 << 32 | 15), Refused { number: 27, line: 15 });
         assert_eq!(Answer::from_run(3 << 16 | 2), Halted { counter: 3, steps: 2 });
         assert_eq!(Answer::from_run(1 << 32 | 65_535), Spent { counter: 0, steps: 65_535 });
         assert_eq!(Answer::from_run(20 << 48), Refused { number: 20, line: 0 });

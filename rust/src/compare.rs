@@ -14,11 +14,13 @@ use std::panic::{catch_unwind, AssertUnwindSafe};
 pub mod bus;
 pub mod jumps;
 pub mod moves;
+pub mod nibble;
 pub mod published;
 pub mod watch;
 use bus::Bus;
 use jumps::Jumps;
 use moves::Moves;
+use nibble::Nibbles;
 use published::Published;
 use watch::Watches;
 
@@ -36,6 +38,7 @@ pub enum Entry {
     Judge,
     TakeIn,
     SendOut,
+    MapTable,
 }
 
 /// The entry points that take one layout.
@@ -85,6 +88,7 @@ impl Call {
             Entry::Judge => on.judge(numbers, bytes, budget),
             Entry::TakeIn => on.take_in(bytes, lent_bytes),
             Entry::SendOut => on.send_out(bytes, lent_bytes),
+            Entry::MapTable => on.map_table(bytes, lent_bytes.try_into().expect("a table")),
         }
     }
 
@@ -101,6 +105,7 @@ impl Call {
                 shown += &(format!("text as string: {text:.20000?}\n") + &self.bytes.show("text"))
             }
             Entry::ToImage | Entry::FromImage | Entry::MoveImage => shown += &self.bytes.show("state"),
+            Entry::MapTable => shown += &self.bytes.show("map"),
             _ => shown += &(self.numbers.show("program") + &show_lines(self.numbers.part())),
         }
         match self.entry {
@@ -131,13 +136,13 @@ fn show_sets(bytes: &[u8]) -> String {
 }
 
 /// One more than the last number of a refusal.
-pub const REFUSALS: usize = 27;
+pub const REFUSALS: usize = 28;
 
 /// What has been tried.
 #[derive(Clone, Default)]
 pub struct Counts {
     pub calls: u64,
-    pub entries: [u64; 12],
+    pub entries: [u64; 13],
     pub refusals: [u64; REFUSALS],
     pub halted: u64,
     pub spent: u64,
@@ -170,12 +175,13 @@ pub struct Counts {
     pub public_bits: u64,
     /// Walks of their expansions on the images of each layout: balanced, spent.
     pub image_walks: [[u64; 2]; 6],
-    /// Of programs full of jumps, of moves, of the bus, of published text, and of watches.
+    /// Of programs full of jumps, of moves, of the bus, of published text, of watches, and of the nibble engine.
     pub jumps: Jumps,
     pub moves: Moves,
     pub bus: Bus,
     pub published: Published,
     pub watches: Watches,
+    pub nibbles: Nibbles,
 }
 
 /// Which of the six a layout is.
@@ -244,6 +250,7 @@ impl Counts {
             Entry::Judge,
             Entry::TakeIn,
             Entry::SendOut,
+            Entry::MapTable,
         ];
         for entry in entries {
             shown += &format!(" {entry:?} {}", self.entries[entry as usize]);
@@ -275,7 +282,7 @@ impl Counts {
         }
         shown += &format!("\nimages refused that another layout takes: {}", self.other_images);
         shown += &(self.jumps.show() + &self.moves.show() + &self.bus.show());
-        shown + &self.published.show() + &self.watches.show()
+        shown + &self.published.show() + &self.watches.show() + &self.nibbles.show()
     }
 }
 
@@ -323,6 +330,11 @@ fn size(rng: &mut Random, needed: usize) -> usize {
         4 => needed + rng.below(20),
         _ => needed,
     }
+}
+
+/// The numbers of a trace, were they counted in sixteen bits.
+fn in_sixteen_bits(budget: usize) -> usize {
+    ROW * budget % 65_536
 }
 
 impl Comparison<'_> {
@@ -455,7 +467,7 @@ impl Comparison<'_> {
         if case % 25 == 0 {
             return self.long(case / 25);
         }
-        match self.rng.below(23) {
+        match self.rng.below(24) {
             0..=3 => {
                 let lines = make::accepted_program(&mut self.rng);
                 self.whole_way(&lines)
@@ -469,6 +481,7 @@ impl Comparison<'_> {
             15..=16 => self.bus(),
             17..=18 => self.published(),
             19..=20 => self.watches(),
+            21 => self.nibbles(),
             _ => self.walks(),
         }
     }
@@ -758,13 +771,15 @@ impl Comparison<'_> {
         Ok(())
     }
 
-    /// A run that mostly does not end.
+    /// A run that mostly does not end, and the same with as little room as a count of sixteen bits would say.
     fn long_run(&mut self) -> Result<(), String> {
         let mut lines = make::accepted_program(&mut self.rng);
         lines.push(make::jump(0));
         let state = make::any_state(&mut self.rng);
         let budget = self.rng.pick(&[65_535, 65_535, 30_000]);
-        self.run(&make::stored(&lines), (0, budget), &state, ROW * budget)?;
+        for room in [ROW * budget, in_sixteen_bits(budget)] {
+            self.run(&make::stored(&lines), (0, budget), &state, room)?;
+        }
         Ok(())
     }
 

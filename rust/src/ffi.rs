@@ -1,6 +1,6 @@
 //! The static library: its exported functions, and safe functions over them.
 
-use crate::answer::{Answer, Dualrail, Layout, Watch};
+use crate::answer::{Answer, Dualrail, Layout, MapTable, PairTable, Watch};
 
 extern "C" {
     fn dualrail_read(text: *const u8, text_length: usize, store: *mut u16, store_length: usize) -> u64;
@@ -71,11 +71,19 @@ extern "C" {
     ) -> u64;
     fn dualrail_take_in(text: *const u8, text_length: usize, out: *mut u8, out_length: usize) -> u64;
     fn dualrail_send_out(text: *const u8, text_length: usize, out: *mut u8, out_length: usize) -> u64;
+    fn dualrail_encode(nibble: u8) -> u8;
+    fn dualrail_decode(word: u8) -> u8;
+    fn dualrail_xor(first: u8, second: u8) -> u8;
+    fn dualrail_xor_table(table: *mut u8);
+    fn dualrail_map_table(map: *const u8, map_length: usize, table: *mut u8) -> u64;
+    fn dualrail_look_up(table: *const u8, word: u8) -> u8;
+    fn dualrail_look_up_pair(table: *const u8, first: u8, second: u8) -> u8;
 }
 
 // Safe, all of them: a pointer and its length come from one slice, and two
 // slices of one call never overlap, as one of them at least is lent for writing;
 // `judge` only reads both of its slices.
+// A table has its length by its type, and goes over as a pointer alone.
 
 pub fn read(text: &[u8], store: &mut [u16]) -> Answer {
     Answer::from_count(unsafe { dualrail_read(text.as_ptr(), text.len(), store.as_mut_ptr(), store.len()) })
@@ -177,6 +185,43 @@ pub fn send_out(text: &[u8], out: &mut [u8]) -> Answer {
     Answer::from_count(unsafe { dualrail_send_out(text.as_ptr(), text.len(), out.as_mut_ptr(), out.len()) })
 }
 
+// Inlined, as the way to these would take as long as they do themselves.
+
+#[inline]
+pub fn encode(nibble: u8) -> u8 {
+    unsafe { dualrail_encode(nibble) }
+}
+
+#[inline]
+pub fn decode(word: u8) -> u8 {
+    unsafe { dualrail_decode(word) }
+}
+
+#[inline]
+pub fn xor(first: u8, second: u8) -> u8 {
+    unsafe { dualrail_xor(first, second) }
+}
+
+#[inline]
+pub fn xor_table(table: &mut PairTable) {
+    unsafe { dualrail_xor_table(table.as_mut_ptr()) }
+}
+
+#[inline]
+pub fn map_table(map: &[u8], table: &mut MapTable) -> Answer {
+    Answer::from_count(unsafe { dualrail_map_table(map.as_ptr(), map.len(), table.as_mut_ptr()) })
+}
+
+#[inline]
+pub fn look_up(table: &MapTable, word: u8) -> u8 {
+    unsafe { dualrail_look_up(table.as_ptr(), word) }
+}
+
+#[inline]
+pub fn look_up_pair(table: &PairTable, first: u8, second: u8) -> u8 {
+    unsafe { dualrail_look_up_pair(table.as_ptr(), first, second) }
+}
+
 /// The static library as one of the implementations.
 pub struct Library;
 
@@ -224,6 +269,34 @@ impl Dualrail for Library {
     }
     fn send_out(&self, text: &[u8], out: &mut [u8]) -> Answer {
         send_out(text, out)
+    }
+    #[inline]
+    fn encode(&self, nibble: u8) -> u8 {
+        encode(nibble)
+    }
+    #[inline]
+    fn decode(&self, word: u8) -> u8 {
+        decode(word)
+    }
+    #[inline]
+    fn xor(&self, first: u8, second: u8) -> u8 {
+        xor(first, second)
+    }
+    #[inline]
+    fn xor_table(&self, table: &mut PairTable) {
+        xor_table(table)
+    }
+    #[inline]
+    fn map_table(&self, map: &[u8], table: &mut MapTable) -> Answer {
+        map_table(map, table)
+    }
+    #[inline]
+    fn look_up(&self, table: &MapTable, word: u8) -> u8 {
+        look_up(table, word)
+    }
+    #[inline]
+    fn look_up_pair(&self, table: &PairTable, first: u8, second: u8) -> u8 {
+        look_up_pair(table, first, second)
     }
 }
 
@@ -283,6 +356,11 @@ mod tests {
             assert_eq!(dualrail_send_out(odd.cast(), 0, image.as_mut_ptr(), 544), 0);
             assert_eq!(dualrail_send_out(b"u,nop,,,,\n".as_ptr(), 10, null_mut(), 0), refused(17));
             assert_eq!(dualrail_send_out(b"\n".as_ptr(), 1, odd.cast(), 0), refused(2));
+            for nowhere in [null(), odd.cast_const().cast()] {
+                let mut table = [7u8; 64];
+                assert_eq!(dualrail_map_table(nowhere, 0, table.as_mut_ptr()), refused(27));
+                assert_eq!(table, [0; 64]);
+            }
         }
         assert_eq!(image, [0; 544]);
     }

@@ -10,6 +10,7 @@ use crate::random::Random;
 
 pub mod bus;
 pub mod moves;
+pub mod nibble;
 pub mod published;
 pub mod watch;
 

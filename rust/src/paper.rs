@@ -2,10 +2,11 @@
 //! docs/STORED-LINES.md, which it asks for), for clarity and not for speed;
 //! the requests of document 02 likewise. The test compares the library with this.
 
-use crate::answer::{Answer, Dualrail, Layout, Watch};
+use crate::answer::{Answer, Dualrail, Layout, MapTable, PairTable, Watch};
 
 pub mod layout;
 pub mod moves;
+pub mod nibble;
 pub mod published;
 pub mod walk;
 pub mod watch;
@@ -828,5 +829,26 @@ impl Dualrail for Paper {
     }
     fn send_out(&self, text: &[u8], out: &mut [u8]) -> Answer {
         published::send_out(text, out)
+    }
+    fn encode(&self, nibble: u8) -> u8 {
+        nibble::encode(nibble)
+    }
+    fn decode(&self, word: u8) -> u8 {
+        nibble::decode(word)
+    }
+    fn xor(&self, first: u8, second: u8) -> u8 {
+        nibble::xor(first, second)
+    }
+    fn xor_table(&self, table: &mut PairTable) {
+        *table = nibble::xor_table();
+    }
+    fn map_table(&self, map: &[u8], table: &mut MapTable) -> Answer {
+        nibble::map_table(map, table)
+    }
+    fn look_up(&self, table: &MapTable, word: u8) -> u8 {
+        nibble::look_up(table, word)
+    }
+    fn look_up_pair(&self, table: &PairTable, first: u8, second: u8) -> u8 {
+        nibble::look_up_pair(table, first, second)
     }
 }

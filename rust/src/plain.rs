@@ -1,6 +1,6 @@
 //! The plain C that the benchmark measures against (bench/plain.c).
 
-use crate::answer::{Answer, Dualrail, Layout, Watch};
+use crate::answer::{Answer, Dualrail, Layout, MapTable, PairTable, Watch};
 
 extern "C" {
     fn plain_read(text: *const u8, text_length: usize, store: *mut u16, store_length: usize) -> u64;
@@ -71,6 +71,13 @@ extern "C" {
     ) -> u64;
     fn plain_take_in(text: *const u8, text_length: usize, out: *mut u8, out_length: usize) -> u64;
     fn plain_send_out(text: *const u8, text_length: usize, out: *mut u8, out_length: usize) -> u64;
+    fn plain_encode(nibble: u8) -> u8;
+    fn plain_decode(word: u8) -> u8;
+    fn plain_xor(first: u8, second: u8) -> u8;
+    fn plain_xor_table(table: *mut u8);
+    fn plain_map_table(map: *const u8, map_length: usize, table: *mut u8) -> u64;
+    fn plain_look_up(table: *const u8, word: u8) -> u8;
+    fn plain_look_up_pair(table: *const u8, first: u8, second: u8) -> u8;
 }
 
 /// Plain C as one of the implementations; it packs its answers as the library does.
@@ -131,5 +138,33 @@ impl Dualrail for Plain {
     }
     fn send_out(&self, text: &[u8], out: &mut [u8]) -> Answer {
         Answer::from_count(unsafe { plain_send_out(text.as_ptr(), text.len(), out.as_mut_ptr(), out.len()) })
+    }
+    #[inline]
+    fn encode(&self, nibble: u8) -> u8 {
+        unsafe { plain_encode(nibble) }
+    }
+    #[inline]
+    fn decode(&self, word: u8) -> u8 {
+        unsafe { plain_decode(word) }
+    }
+    #[inline]
+    fn xor(&self, first: u8, second: u8) -> u8 {
+        unsafe { plain_xor(first, second) }
+    }
+    #[inline]
+    fn xor_table(&self, table: &mut PairTable) {
+        unsafe { plain_xor_table(table.as_mut_ptr()) }
+    }
+    #[inline]
+    fn map_table(&self, map: &[u8], table: &mut MapTable) -> Answer {
+        Answer::from_count(unsafe { plain_map_table(map.as_ptr(), map.len(), table.as_mut_ptr()) })
+    }
+    #[inline]
+    fn look_up(&self, table: &MapTable, word: u8) -> u8 {
+        unsafe { plain_look_up(table.as_ptr(), word) }
+    }
+    #[inline]
+    fn look_up_pair(&self, table: &PairTable, first: u8, second: u8) -> u8 {
+        unsafe { plain_look_up_pair(table.as_ptr(), first, second) }
     }
 }

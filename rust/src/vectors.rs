@@ -13,7 +13,7 @@ use std::panic::{catch_unwind, AssertUnwindSafe};
 use std::path::Path;
 
 /// How many requests of document 02 are in force: one more with each that lands.
-pub const IN_FORCE: u32 = 9;
+pub const IN_FORCE: u32 = 10;
 
 /// What the cases are called on.
 pub struct Tested<'a> {
@@ -77,7 +77,7 @@ mod tests {
     use crate::paper::Paper;
 
     /// A right case for each call, without its first two lines.
-    const RIGHT: [&str; 31] = [
+    const RIGHT: [&str; 41] = [
         "call read\ntext \"u,nop,,,,\\nx\"\nroom 13\nanswer refused 1 1\nwritten 6*0\n",
         "call read\ntext repeat 2 \"u,nop,,,,\\n\"\nroom 13\nanswer count 2\nwritten repeat 2 6*0\n",
         "call write\nprogram \"u,nop,,,,\\n\"\nroom 12\nanswer count 10\nout \"u,nop,,,,\\n\"\n",
@@ -128,6 +128,18 @@ mod tests {
          changed 33=7\nwatched 33 7 2 2\nwatched 5 9 0 0\n",
         "call run-watched\nprogram \"\"\nstate 544*00\nstart 0\nbudget 0\nwatch 0 543 544\nroom 0\nanswer refused 26 0\n",
         "call run-watched\nprogram \"\"\nstate 544*00\nstart 3\nbudget 0\nwatch -\nroom 0\nanswer halted 3 0\n",
+        "call code\nvalue 4\nanswer value 19\n",
+        "call decode\nword 20\nanswer value 255\n",
+        // 1 xor 3 is 2.
+        "call xor\noperands 11 14\nanswer value 13\n",
+        "call xor\noperands 7 71\nanswer value 0\n",
+        "call xor-entry\nindex 718\nanswer value 13\n",
+        "call map\nmap 15 15*0\nanswer done\n\
+         table 7*0 44 0 0 0 7 0 2*7 4*0 7 0 2*7 2*0 2*7 0 7 6*0 7 0 2*7 2*0 2*7 0 7 19*0\n",
+        "call map\nmap 14*0 16 15\nanswer refused 27 14\ntable 64*0\n",
+        "call map\nmap 17*16\nanswer refused 27 0\ntable 64*0\n",
+        "call look-up\nmap 15 15*0\nword 7\nanswer value 44\n",
+        "call look-up\nmap -\nword 7\nanswer refused 27 0\n",
     ];
 
     fn tally(contents: &str, report: &mut dyn FnMut(String)) -> Tally {
@@ -217,6 +229,27 @@ mod tests {
         (29, "26 0", "26 0\nwatched 0 0 0 0"),
         (30, "watch -", "watch 9*0"),
         (30, "halted 3 0", "halted 3 1"),
+        (31, "value 4", "value 5"),
+        (31, "19", "4"),
+        (32, "word 20", "word 19"),
+        (32, "255", "0"),
+        (33, "11 14", "11 13"),
+        (33, "value 13", "value 5"),
+        (34, "71", "7"),
+        (35, "718", "717"),
+        (35, "value 13", "value 0"),
+        (36, "map 15", "map 14"),
+        (36, "table 7*0 44", "table 7*0 42"),
+        (36, "19*0", "18*0 7"),
+        (36, "done", "count 64"),
+        (37, "16 15", "15 16"),
+        (37, "27 14", "27 0"),
+        (37, "64*0", "7*0 7 56*0"),
+        (38, "27 0", "27 1"),
+        (38, "17*16", "16*15"),
+        (39, "word 7", "word 11"),
+        (39, "44", "15"),
+        (40, "map -", "map 16*0"),
         // What cannot be read.
         (0, "call read", "call reed"),
         (0, "room 13", "room"),
@@ -252,6 +285,18 @@ mod tests {
         (28, "watched 5 9 0 0", "watched 5 256 0 0"),
         (28, "call run-watched", "call run"),
         (30, "watch -", "watch -\nwatched 0 0 0 0"),
+        (31, "value 4\n", ""),
+        (31, "value 4", "value 256"),
+        (32, "word 20", "word 20\nvalue 4"),
+        (33, "11 14", "11"),
+        (33, "11 14", "11 14 7"),
+        (35, "718", "4096"),
+        (36, "map 15 15*0\n", ""),
+        (36, "map 15", "map 271"),
+        (36, "19*0", "18*0"),
+        (36, "19*0", "20*0"),
+        (37, "table 64*0\n", ""),
+        (39, "word 7\n", ""),
     ];
 
     #[test]

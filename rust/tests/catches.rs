@@ -11,7 +11,7 @@ use dualrail::paper::{
     MOST_CHECKED, MOST_LINES, PAGE, ROW, SIX, STATE,
 };
 use dualrail::Answer::{self, *};
-use dualrail::{Dualrail, Layout, Watch};
+use dualrail::{Dualrail, Layout, MapTable, PairTable, Watch};
 use std::ops::RangeInclusive;
 
 #[path = "catches/bus.rs"]
@@ -22,6 +22,8 @@ mod jumps;
 mod layouts;
 #[path = "catches/moves.rs"]
 mod moves;
+#[path = "catches/nibble.rs"]
+mod nibble;
 #[path = "catches/published.rs"]
 mod published;
 #[path = "catches/watch.rs"]
@@ -56,6 +58,15 @@ struct Variant {
     judge: fn(&[u16], &[u8], u16) -> Answer,
     take_in: Convert,
     send_out: Convert,
+    encode: nibble::Byte,
+    decode: nibble::Byte,
+    xor: nibble::Pair,
+    xor_table: nibble::WritePairs,
+    map_table: nibble::WriteMap,
+    look_up: nibble::LookUp,
+    look_up_pair: nibble::LookUpPair,
+    /// What an entry of the exclusive-or table is, by the halves of its index, if it is not the right one.
+    entry: Option<nibble::Pair>,
     /// The parts that an expansion is made of, if they are not the right ones.
     part: Option<Part>,
     /// The parts whose lengths the starts are added up of, and what targets then become, if not the right ones.
@@ -99,6 +110,14 @@ const RIGHT: Variant = Variant {
     judge: |program, sets, budget| Paper.judge(program, sets, budget),
     take_in: |text, out| Paper.take_in(text, out),
     send_out: |text, out| Paper.send_out(text, out),
+    encode: |nibble| Paper.encode(nibble),
+    decode: |word| Paper.decode(word),
+    xor: |first, second| Paper.xor(first, second),
+    xor_table: |table| Paper.xor_table(table),
+    map_table: |map, table| Paper.map_table(map, table),
+    look_up: |table, word| Paper.look_up(table, word),
+    look_up_pair: |table, first, second| Paper.look_up_pair(table, first, second),
+    entry: None,
     part: None,
     targets: None,
     made: |_, _| (),
@@ -247,6 +266,32 @@ impl Dualrail for Variant {
             Some(rules) => published::sent_by(rules, text, out),
             None => (self.send_out)(text, out),
         }
+    }
+    fn encode(&self, nibble: u8) -> u8 {
+        (self.encode)(nibble)
+    }
+    fn decode(&self, word: u8) -> u8 {
+        (self.decode)(word)
+    }
+    fn xor(&self, first: u8, second: u8) -> u8 {
+        (self.xor)(first, second)
+    }
+    fn xor_table(&self, table: &mut PairTable) {
+        match self.entry {
+            Some(entry) => {
+                *table = std::array::from_fn(|index| entry((index / 64) as u8, (index % 64) as u8))
+            }
+            None => (self.xor_table)(table),
+        }
+    }
+    fn map_table(&self, map: &[u8], table: &mut MapTable) -> Answer {
+        (self.map_table)(map, table)
+    }
+    fn look_up(&self, table: &MapTable, word: u8) -> u8 {
+        (self.look_up)(table, word)
+    }
+    fn look_up_pair(&self, table: &PairTable, first: u8, second: u8) -> u8 {
+        (self.look_up_pair)(table, first, second)
     }
 }
 
@@ -1820,7 +1865,7 @@ fn every_fault_is_found() {
     let whole = variants().into_iter().chain(jumps::variants()).map(named).chain(layouts::variants());
     let (mut found, mut missed) = (0, vec![]);
     let whole = whole.chain(moves::variants()).chain(bus::variants()).chain(published::variants());
-    let whole = whole.chain(watch::variants());
+    let whole = whole.chain(watch::variants()).chain(nibble::variants());
     for (fault, variant) in whole {
         match compare(&variant, 2, 1, 12_000) {
             Ok(_) => missed.push(fault),

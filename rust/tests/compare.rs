@@ -3,6 +3,7 @@
 use dualrail::compare::bus::Bus;
 use dualrail::compare::jumps::Jumps;
 use dualrail::compare::moves::Moves;
+use dualrail::compare::nibble::Nibbles;
 use dualrail::compare::published::{Published, FORMS};
 use dualrail::compare::watch::Watches;
 use dualrail::compare::{compare, Counts, WITH_LAYOUT};
@@ -12,7 +13,7 @@ use dualrail::paper::Opcode;
 use dualrail::plain::Plain;
 use dualrail::Library;
 
-const CASES: u64 = 132_000;
+const CASES: u64 = 138_000;
 
 fn from_environment(name: &str) -> Option<u64> {
     std::env::var(name).ok().map(|value| value.parse().expect("a number"))
@@ -53,6 +54,7 @@ fn library_against_paper() {
     the_bus_is_met(&counts.bus);
     published_text_is_met(&counts.published);
     watches_are_met(&counts.watches);
+    nibbles_are_met(&counts.nibbles);
 }
 
 /// Request 04: each of the six layouts often, in whole runs and walks too, and 23 before every other refusal.
@@ -241,6 +243,33 @@ fn watches_are_met(watches: &Watches) {
         assert!(right >= 40 && wrong >= 120, "{number} came {right} and {wrong} times only");
     }
     assert_eq!(watches.refusals[0][26], 0, "26 came for a right list");
+}
+
+/// Request 10: all operands of everything, maps of every kind, and 27 at every index and for every length to 40.
+fn nibbles_are_met(nibbles: &Nibbles) {
+    let every = [
+        ("calls", &nibbles.calls[..], 400),
+        ("all operands", &[nibbles.whole], 400),
+        ("pairs", nibbles.pairs.as_flattened().as_flattened(), 10_000),
+        ("operands of tables", nibbles.words.as_flattened(), 60_000),
+        ("maps by kind", &nibbles.kinds, 500),
+        ("maps followed by another", &[nibbles.followed], 4_000),
+        ("rows of the exclusive or", &[nibbles.rows], 500),
+        ("27 for the length, a value, both", &nibbles.wrong, 4_000),
+        ("27 for a value by its index", &nibbles.at, 40),
+        ("27 before a larger value, a smaller one", &nibbles.several, 1_000),
+        ("27 for the last value alone", &[nibbles.last_alone], 500),
+        ("27 for 16, for 255", &nibbles.nearest, 500),
+        ("27 at 0 with a wrong value elsewhere", &[nibbles.elsewhere], 2_000),
+    ];
+    for (name, counts, least) in every {
+        assert!(counts.iter().all(|&count| count >= least), "{name}: {counts:?} only");
+    }
+    for length in (0..=40).filter(|&length| length != 16).chain([272, 65_552]) {
+        let count = nibbles.lengths.get(&length).copied().unwrap_or(0);
+        assert!(count >= 40, "27 came for {length} values {count} times only");
+    }
+    assert_eq!(nibbles.lengths.get(&16), None, "27 came for 16 values");
 }
 
 /// The measure of the benchmark does the same job.

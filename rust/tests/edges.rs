@@ -1,12 +1,12 @@
 //! The edges and examples that the papers print, and a few for the walk, for the layouts, for jumps, for moves, for
-//! the bus, for the published spelling and for watches.
+//! the bus, for the published spelling, for watches and for the nibble engine.
 
 use dualrail::paper::walk::SET;
 use dualrail::paper::{Paper, MOST_LINES, ROW, SIX, STATE};
 use dualrail::plain::Plain;
 use dualrail::simon;
 use dualrail::Answer::{self, *};
-use dualrail::{Dualrail, Layout, Library, Watch};
+use dualrail::{Dualrail, Layout, Library, MapTable, PairTable, Watch};
 
 fn each(test: fn(&dyn Dualrail)) {
     test(&Library);
@@ -1628,5 +1628,135 @@ fn watches_refused() {
             assert_eq!(answer(&right, STATE, ROW - 1, wrong), refused(20, 0));
             assert_eq!(answer(&right, STATE, ROW, wrong), refused(26, 0));
         }
+    });
+}
+
+/// Request 10: the code as the paragraph prints it, which is the first sixteen words of six bits with three ones.
+const CODE: [u8; 16] = [7, 11, 13, 14, 19, 21, 22, 25, 26, 28, 35, 37, 38, 41, 42, 44];
+
+#[test]
+fn the_code() {
+    let three_ones: Vec<u8> = (0..64).filter(|word: &u8| word.count_ones() == 3).collect();
+    assert_eq!((&three_ones[..16], &three_ones[16..]), (&CODE[..], &[49, 50, 52, 56][..]));
+    each(|on| {
+        for (nibble, codeword) in (0..).zip(CODE) {
+            assert_eq!((on.encode(nibble), on.decode(codeword)), (codeword, nibble));
+        }
+        // The first number above 15, others that are right in their lowest bits, the last.
+        assert_eq!([16, 17, 31, 32, 128, 240, 255].map(|number| on.encode(number)), [0; 7]);
+        // Beside codewords, words of three ones that are not used, codewords with a higher bit, the last.
+        let outside = [0, 6, 8, 12, 15, 43, 45, 49, 50, 52, 56, 63, 64, 67, 71, 108, 135, 199, 236, 255];
+        assert_eq!(outside.map(|word| on.decode(word)), [255; 20]);
+    });
+}
+
+/// Request 10: 5 xor 3 is 6, 9 xor 9 is 0, 15 xor 0 is 15, 10 xor 5 is 15; 0 with a wrong half, any above 63 included.
+#[test]
+fn exclusive_ors() {
+    each(|on| {
+        let mut table: PairTable = [99; 4_096];
+        on.xor_table(&mut table);
+        let right = [(21, 14, 22), (28, 28, 7), (44, 7, 44), (7, 44, 44), (35, 21, 44), (7, 7, 7)];
+        for (first, second, sum) in right {
+            assert_eq!(on.xor(first, second), sum);
+            assert_eq!(on.look_up_pair(&table, first, second), sum);
+            assert_eq!(table[64 * first as usize + second as usize], sum);
+        }
+        let wrong = [(7, 8), (8, 7), (0, 0), (7, 0), (44, 45), (49, 7), (63, 63), (0, 7), (3, 12)];
+        for (first, second) in wrong {
+            assert_eq!((on.xor(first, second), on.look_up_pair(&table, first, second)), (0, 0));
+            assert_eq!(table[64 * first as usize + second as usize], 0);
+        }
+        // 71 is 64 + 7, and 64 x 6 + 71 is 64 x 7 + 7.
+        let above = [(7, 71), (71, 7), (6, 71), (71, 71), (135, 7), (7, 199), (7, 255), (255, 255), (64, 7)];
+        for (first, second) in above {
+            assert_eq!((on.xor(first, second), on.look_up_pair(&table, first, second)), (0, 0));
+        }
+        assert_eq!(table.iter().filter(|&&entry| entry != 0).count(), 256);
+    });
+}
+
+/// Request 10: a table of 64 entries with these, and 0 in all others.
+fn table_of(entries: &[(usize, u8)]) -> MapTable {
+    let mut table = [0; 64];
+    for &(index, entry) in entries {
+        table[index] = entry;
+    }
+    table
+}
+
+/// Request 10: the map that sends 0 to 12, 1 to 5, 2 to 6 and so on, the S-box of PRESENT; maps of one value.
+#[test]
+fn tables_of_maps() {
+    each(|on| {
+        let mut table: MapTable = [99; 64];
+        let map = [12, 5, 6, 11, 9, 0, 10, 13, 3, 14, 15, 8, 4, 7, 1, 2];
+        assert_eq!(on.map_table(&map, &mut table), Counted(64));
+        let low = [(7, 38), (11, 21), (13, 22), (14, 37), (19, 28), (21, 7), (22, 35), (25, 41)];
+        let high = [(26, 14), (28, 42), (35, 44), (37, 26), (38, 19), (41, 25), (42, 11), (44, 13)];
+        assert_eq!(table, table_of(&[low, high].concat()));
+        let operands = [7, 44, 0, 8, 45, 49, 63, 64, 71, 108, 135, 255];
+        let results = [38, 13, 0, 0, 0, 0, 0, 0, 0, 0, 0, 0];
+        assert_eq!(operands.map(|word| on.look_up(&table, word)), results);
+        for (value, codeword) in [(0, 7), (15, 44)] {
+            assert_eq!(on.map_table(&[value; 16], &mut table), Counted(64));
+            assert_eq!(table, table_of(&CODE.map(|word| (word as usize, codeword))));
+        }
+    });
+}
+
+/// Request 10: "27 a map not of 16 values, at index 0, else the first value above 15, at its index"; the table then is 0
+/// in all entries.
+#[test]
+fn maps_refused() {
+    each(|on| {
+        let with = |places: &[(usize, u8)]| {
+            let mut map = [3; 16];
+            for &(at, value) in places {
+                map[at] = value;
+            }
+            map.to_vec()
+        };
+        let maps = [
+            (vec![], 0),
+            (vec![0; 15], 0),
+            (vec![0; 17], 0),
+            (vec![0; 32], 0),
+            (vec![0; 272], 0),
+            (vec![0; 65_552], 0),
+            (with(&[(0, 16)]), 0),
+            (with(&[(1, 16)]), 1),
+            (with(&[(15, 255)]), 15),
+            (with(&[(7, 19)]), 7),
+            (with(&[(4, 16), (9, 200)]), 4),
+            (with(&[(4, 200), (9, 16)]), 4),
+            (vec![16; 16], 0),
+            // Of the wrong length and with wrong values: the length counts.
+            ([with(&[(5, 16)]), vec![16]].concat(), 0),
+            ([with(&[]), vec![16]].concat(), 0),
+            (with(&[(14, 255)])[..15].to_vec(), 0),
+            (vec![0, 16], 0),
+        ];
+        for (map, index) in maps {
+            let mut table: MapTable = [99; 64];
+            assert_eq!(on.map_table(&map, &mut table), refused(27, index), "{map:?}");
+            assert_eq!(table, [0; 64], "{map:?}");
+        }
+    });
+}
+
+/// Request 10: look-ups in tables that nobody made: the entry, whatever it is, and 0 above 63.
+#[test]
+fn look_ups_in_any_table() {
+    each(|on| {
+        let table = std::array::from_fn(|index| 255 - index as u8);
+        assert_eq!([0, 7, 8, 63].map(|word| on.look_up(&table, word)), [255, 248, 247, 192]);
+        assert_eq!([64, 71, 127, 128, 255].map(|word| on.look_up(&table, word)), [0; 5]);
+        let mut table: PairTable = [1; 4_096];
+        (table[64 * 2 + 63], table[64 * 63 + 2], table[4_095], table[0]) = (2, 3, 255, 254);
+        let pairs = [(2, 63), (63, 2), (63, 63), (0, 0), (3, 4)];
+        assert_eq!(pairs.map(|(first, second)| on.look_up_pair(&table, first, second)), [2, 3, 255, 254, 1]);
+        let above = [(64, 0), (0, 64), (1, 127), (66, 63), (2, 127), (191, 191), (255, 0), (0, 255)];
+        assert_eq!(above.map(|(first, second)| on.look_up_pair(&table, first, second)), [0; 8]);
     });
 }

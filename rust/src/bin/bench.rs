@@ -1,11 +1,13 @@
 //! Times the library against plain C (bench/plain.c, cc -O3 -march=native) in one process, on
 //! the same inputs, and prints the ratios of the medians.
 
+use dualrail::paper::nibble::C;
 use dualrail::paper::walk::SET;
 use dualrail::paper::{kind_of_place, Kind, Paper, MOST_BYTES, MOST_LINES, ROW, SIX, STATE};
 use dualrail::plain::Plain;
+use dualrail::random::Random;
 use dualrail::simon;
-use dualrail::{Answer, Dualrail, Layout, Library, Watch};
+use dualrail::{Answer, Dualrail, Layout, Library, MapTable, PairTable, Watch};
 use std::hint::black_box;
 use std::time::Instant;
 
@@ -79,6 +81,44 @@ fn measure_times(repeats: usize, name: &str, goal: f64, job: Job) -> f64 {
     let (library, plain) = (median(library), median(plain));
     println!("{name:56} {library:10.1} {plain:10.1} {}", judged(library / plain, goal));
     library
+}
+
+/// Makes a call for each pair of operands, its result in its place; gives the nanoseconds of one.
+fn time_calls(operands: &[(u8, u8)], results: &mut [u8], mut call: impl FnMut(u8, u8) -> u8) -> f64 {
+    let begin = Instant::now();
+    for (result, &(first, second)) in results.iter_mut().zip(operands) {
+        *result = call(first, second);
+    }
+    black_box(results);
+    begin.elapsed().as_secs_f64() * 1e9 / operands.len() as f64
+}
+
+/// Times calls that are too short for one alone, and for the detour by `dyn`, on both sides by turns; prints the medians
+/// of one call in nanoseconds, their ratio and the goal for it.
+fn measure_calls(
+    name: &str,
+    goal: f64,
+    operands: &[(u8, u8)],
+    mut library: impl FnMut(u8, u8) -> u8,
+    mut plain: impl FnMut(u8, u8) -> u8,
+) {
+    let (mut ours, mut theirs) = (vec![0; operands.len()], vec![0; operands.len()]);
+    let mut times = [vec![], vec![]];
+    for turn in 0..REPEATS + 10 {
+        // Who goes first changes from turn to turn, and the first turns only warm up.
+        for side in [turn % 2, 1 - turn % 2] {
+            let time = match side {
+                0 => time_calls(operands, &mut ours, &mut library),
+                _ => time_calls(operands, &mut theirs, &mut plain),
+            };
+            if turn >= 10 {
+                times[side].push(time);
+            }
+        }
+    }
+    assert!(ours == theirs, "{name}: the results differ");
+    let [library, plain] = times.map(median);
+    println!("{name:56} {library:10.2} {plain:10.2} {}", judged(library / plain, goal));
 }
 
 fn stored(text: &str) -> Vec<u16> {
@@ -334,6 +374,86 @@ fn published() {
     send_out("send out: the example cipher", simon::TEXT);
 }
 
+/// So many pairs of operands.
+fn operands(count: usize, mut operand: impl FnMut() -> u8) -> Vec<(u8, u8)> {
+    (0..count).map(|_| (operand(), operand())).collect()
+}
+
+/// The goal for calls of few nanoseconds: the same code can be a quarter slower by where it lies.
+const CALL_GOAL: f64 = 1.5;
+
+/// Request 10: coding and look-ups of 4,096 random operands, one call each.
+fn nibbles() {
+    let mut rng = Random::new(10);
+    let nibbles = operands(4_096, || rng.below(16) as u8);
+    let codewords = operands(4_096, || rng.pick(&C));
+    let bytes = operands(4_096, || rng.byte());
+    for (kind, operands) in [("nibbles", &nibbles), ("any bytes", &bytes)] {
+        let name = format!("encode, {kind}");
+        measure_calls(&name, CALL_GOAL, operands, |a, _| Library.encode(a), |a, _| Plain.encode(a));
+    }
+    let (mut table, mut pairs): (MapTable, PairTable) = ([0; 64], [0; 4_096]);
+    Library.map_table(&[12, 5, 6, 11, 9, 0, 10, 13, 3, 14, 15, 8, 4, 7, 1, 2], &mut table);
+    Library.xor_table(&mut pairs);
+    for (kind, operands) in [("codewords", &codewords), ("any bytes", &bytes)] {
+        let name = format!("decode, {kind}");
+        measure_calls(&name, CALL_GOAL, operands, |a, _| Library.decode(a), |a, _| Plain.decode(a));
+        let ours = |a, _| Library.look_up(&table, a);
+        let theirs = |a, _| Plain.look_up(&table, a);
+        measure_calls(&format!("look up in a map's table, {kind}"), CALL_GOAL, operands, ours, theirs);
+        let ours = |a, b| Library.look_up_pair(&pairs, a, b);
+        let theirs = |a, b| Plain.look_up_pair(&pairs, a, b);
+        measure_calls(
+            &format!("look up two in the exclusive-or table, {kind}"),
+            CALL_GOAL,
+            operands,
+            ours,
+            theirs,
+        );
+        let name = format!("exclusive or, no table lent, {kind}");
+        measure_calls(&name, CALL_GOAL, operands, |a, b| Library.xor(a, b), |a, b| Plain.xor(a, b));
+    }
+    tables(&nibbles);
+}
+
+/// Request 10: whole tables made, of which one entry goes to the results.
+fn tables(nibbles: &[(u8, u8)]) {
+    let mut rng = Random::new(11);
+    let mut maps = [[0; 16]; 16];
+    maps.as_flattened_mut().fill_with(|| rng.below(16) as u8);
+    let map_of = |a: u8| &maps[a as usize];
+    let [mut ours, mut theirs]: [MapTable; 2] = [[0; 64]; 2];
+    measure_calls(
+        "the table of a map made",
+        1.2,
+        nibbles,
+        |a, b| {
+            Library.map_table(map_of(a), &mut ours);
+            ours[C[b as usize] as usize]
+        },
+        |a, b| {
+            Plain.map_table(map_of(a), &mut theirs);
+            theirs[C[b as usize] as usize]
+        },
+    );
+    let [mut ours, mut theirs]: [PairTable; 2] = [[0; 4_096]; 2];
+    let entry = |a: u8, b: u8| 64 * C[a as usize] as usize + C[b as usize] as usize;
+    measure_calls(
+        "the exclusive-or table written",
+        1.2,
+        &nibbles[..256],
+        |a, b| {
+            Library.xor_table(&mut ours);
+            ours[entry(a, b)]
+        },
+        |a, b| {
+            Plain.xor_table(&mut theirs);
+            theirs[entry(a, b)]
+        },
+    );
+    assert!(ours == theirs, "the exclusive-or tables differ");
+}
+
 fn main() {
     println!(
         "Medians of {REPEATS} repeats in microseconds; both sides in one process, by turns, on the same"
@@ -354,6 +474,11 @@ fn main() {
     moves();
     let [read, write] = texts();
     published();
+
+    println!(
+        "\nThe nibble engine: one call in nanoseconds, by 4,096 calls in a repeat, of the last kind 256."
+    );
+    nibbles();
 
     println!("\nThe worst step of a walk found: {:.2} ms.", step / 1000.0);
     println!("\nThe library alone, ratios of its medians:");

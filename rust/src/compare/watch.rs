@@ -1,7 +1,9 @@
 //! Request 09: runs with watches on places that they write, read or leave alone, whole and cut in two, and what is
 //! refused of them.
 
-use super::{counter, numbered, show_lines, size, steps, Comparison, Entry, Small, NONE, REFUSALS};
+use super::{
+    counter, in_sixteen_bits, numbered, show_lines, size, steps, Comparison, Entry, Small, NONE, REFUSALS,
+};
 use crate::answer::{Answer, Dualrail, Watch};
 use crate::generate as make;
 use crate::generate::watch::{Step, Wrong};
@@ -391,9 +393,4 @@ impl Comparison<'_> {
         let budget = self.rng.within(0, most);
         (budget, size(&mut self.rng, ROW * budget))
     }
-}
-
-/// The numbers of a trace, were they counted in sixteen bits.
-fn in_sixteen_bits(budget: usize) -> usize {
-    ROW * budget % 65_536
 }

@@ -3,7 +3,7 @@
 
 use super::parse::{self, Case};
 use super::Tested;
-use crate::answer::{Answer, Layout, Watch};
+use crate::answer::{Answer, Layout, MapTable, PairTable, Watch};
 use crate::generate::watch;
 use crate::lent::Lent;
 use crate::paper::walk::{MOST_VALUES, SET};
@@ -39,6 +39,12 @@ pub fn call(tested: &Tested, case: &Case) -> Result<Called, String> {
         ),
         "walk" => (&["program", "stored", "values", "sets", "raw", "rest", "length", "budget"], walk),
         "take-in" | "send-out" => (&["text", "room", "out"], convert),
+        "code" => (&["value"], code),
+        "decode" => (&["word"], decode),
+        "xor" => (&["operands"], xor),
+        "xor-entry" => (&["index"], xor_entry),
+        "map" => (&["map", "table"], map),
+        "look-up" => (&["map", "word"], look_up),
         "print-expansion" | "print-trace" => (&["text", "out"], print),
         other => return Err(format!("the call {other:?} is unknown")),
     };
@@ -61,7 +67,16 @@ fn spelled(answer: Answer) -> String {
 }
 
 fn called(case: &Case, answer: Answer, faults: String) -> Result<Called, String> {
-    Ok(Called { expected: case.one("answer")?.to_string(), answer: spelled(answer), faults })
+    called_so(case, spelled(answer), faults)
+}
+
+/// The same of a byte that is given.
+fn called_value(case: &Case, value: u8, faults: String) -> Result<Called, String> {
+    called_so(case, format!("value {value}"), faults)
+}
+
+fn called_so(case: &Case, answer: String, faults: String) -> Result<Called, String> {
+    Ok(Called { expected: case.one("answer")?.to_string(), answer, faults })
 }
 
 // ---------------------------------------------------------------- memory
@@ -344,6 +359,90 @@ fn lent_sets(case: &Case) -> Result<Vec<u8>, String> {
         bytes.resize(case.number::<u16>("length")? as usize, 0);
     }
     Ok(bytes)
+}
+
+// ---------------------------------------------------------------- the nibble engine
+
+fn code(tested: &Tested, case: &Case) -> Result<Called, String> {
+    called_value(case, tested.library.encode(case.number("value")?), String::new())
+}
+
+fn decode(tested: &Tested, case: &Case) -> Result<Called, String> {
+    called_value(case, tested.library.decode(case.number("word")?), String::new())
+}
+
+/// The exclusive-or table, written over anything: what it holds, the case says, but nothing around it may change.
+fn xor_table(tested: &Tested) -> Result<Memory<u8>, String> {
+    let mut table = Memory::store("table", size_of::<PairTable>(), Random::byte);
+    tested.library.xor_table(table.part_mut().try_into().expect("a table"));
+    let written = table.part().to_vec();
+    table.expect(&written)?;
+    Ok(table)
+}
+
+/// A lent table as one of its type.
+fn whole<const N: usize>(table: &Memory<u8>) -> &[u8; N] {
+    table.part().try_into().expect("a table")
+}
+
+/// The result for two operands, without a table and by the one that is written.
+fn xor(tested: &Tested, case: &Case) -> Result<Called, String> {
+    let [first, second] = parse::list(case.one("operands")?)?[..] else {
+        return Err("`operands` is not two numbers".to_string());
+    };
+    let table = xor_table(tested)?;
+    let value = tested.library.xor(first, second);
+    let faults = match tested.library.look_up_pair(whole(&table), first, second) {
+        same if same == value => String::new(),
+        other => format!("the table gives {other}\n"),
+    };
+    called_value(case, value, faults + &table.fault())
+}
+
+fn xor_entry(tested: &Tested, case: &Case) -> Result<Called, String> {
+    let index: usize = case.number("index")?;
+    let table = xor_table(tested)?;
+    let entry = table.part().get(index).ok_or("`index` beyond the table")?;
+    called_value(case, *entry, table.fault())
+}
+
+/// The map handed in, and a store for its table, its contents being free.
+fn map_and_store(case: &Case) -> Result<(Memory<u8>, Memory<u8>), String> {
+    let map: Vec<u8> = parse::list(case.one("map")?)?;
+    Ok((input_bytes(&map), Memory::store("table", size_of::<MapTable>(), Random::byte)))
+}
+
+/// Makes the table.
+fn map_table(tested: &Tested, map: &Memory<u8>, table: &mut Memory<u8>) -> Answer {
+    tested.library.map_table(map.part(), table.part_mut().try_into().expect("a table"))
+}
+
+fn map(tested: &Tested, case: &Case) -> Result<Called, String> {
+    let (map, mut table) = map_and_store(case)?;
+    let expected: Vec<u8> = parse::list(case.one("table")?)?;
+    if expected.len() != size_of::<MapTable>() {
+        return Err(format!("`table` of {} entries", expected.len()));
+    }
+    table.expect(&expected)?;
+    let answer = map_table(tested, &map, &mut table);
+    let faults = map.fault() + &table.fault();
+    match answer {
+        Answer::Counted(64) => called_so(case, "done".to_string(), faults),
+        answer => called(case, answer, faults),
+    }
+}
+
+/// The result of a map's table for an operand; of a refused map the refusal.
+fn look_up(tested: &Tested, case: &Case) -> Result<Called, String> {
+    let (map, mut table) = map_and_store(case)?;
+    match map_table(tested, &map, &mut table) {
+        Answer::Counted(64) => {
+            let table = input_bytes(table.part());
+            let value = tested.library.look_up(whole(&table), case.number("word")?);
+            called_value(case, value, map.fault() + &table.fault())
+        }
+        answer => called(case, answer, map.fault()),
+    }
 }
 
 // ---------------------------------------------------------------- programs
