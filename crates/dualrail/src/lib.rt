@@ -252,11 +252,7 @@ pub extern "C" fn dualrail_map_table(map: &[u8], table: &mut [u8; WORDS]) -> u64
     ensures { λ r. ⌜ r ≡ packed (mapOutcome (now (map .entry)) .answer) ⌝ }
     ensures { λ _. ⌜ now (table .exit) ∷ [] ≡ mapOutcome (now (map .entry)) .stores ⌝ }
 {
-    let made = nibble::map_table(map);
-    let answer = made.answer;
-    let entries = made.table;
-    *table = entries;
-    pack(answer)
+    pack(nibble::map_table_into(map, table))
 }
 
 #[no_mangle]

@@ -1,13 +1,13 @@
 -- A map's table: what it is checked for, and how it is filled, one nibble after the other.
 -- Assumes nothing.
 use mathlib.Core.Path.{_≡_, refl, ap, _∙_}
-use mathlib.Core.Bool.{cond}
+use mathlib.Core.Bool.{Bool, true, false, cond}
 use mathlib.Core.List.{List, [], _∷_}
-use Prim.Native.Nat.{ℕ, _+_, _<_, _≤_}
+use Prim.Native.Nat.{ℕ, zero, suc, _+_, _<_, _≤_}
 use native.Mathlib.Decide.{ℕ-discrete}
 use native.Mathlib.Omega.{arith}
 use native.Mathlib.Numerals.{add-one}
-use borrow.Author.Tests.{eq-eqb, ne-eqb, lt-ltb, le-ltb}
+use borrow.Author.Tests.{eq-eqb, ne-eqb, lt-ltb, le-ltb, ltb-false}
 use lib.Dec.{ltb}
 use lib.ListN.{length, getD, set, drop, replicate, drop-of-length-le, length-set}
 use lib.Seq.{getD-set-same, getD-set-other, drop-cons}
@@ -30,6 +30,20 @@ above-here m i h g = rw (drop-cons m i 0 h, lt-ltb 15 (getD m i 0) g) (omega ari
 pub above-end : (m : List ℕ) (i : ℕ) → length m ≤ i → i ≡ i + firstAbove (drop i m)
 unfolding firstAbove
 above-end m i h = rw (drop-of-length-le m h) (omega arith)
+
+-- a map without such a value
+pub none-above : (m : List ℕ) → length m ≤ firstAbove m → (k : ℕ) → getD m k 0 ≤ 15
+unfolding firstAbove
+none-above [] h k = omega arith
+none-above (v ∷ vs) h k = go (ltb 15 v) refl h (λ g. none-above vs g)
+  where
+    by : (k : ℕ) → v ≤ 15 → ((k : ℕ) → getD vs k 0 ≤ 15) → getD (v ∷ vs) k 0 ≤ 15
+    by zero e ih = e
+    by (suc k) e ih = ih k
+
+    go : (t : Bool) → ltb 15 v ≡ t → suc (length vs) ≤ cond t 0 (suc (firstAbove vs)) → (length vs ≤ firstAbove vs → (k : ℕ) → getD vs k 0 ≤ 15) → getD (v ∷ vs) k 0 ≤ 15
+    go true e g ih = absurd (omega arith)
+    go false e g ih = by k (ltb-false 15 v e) (ih (omega arith))
 
 -- ---- filling: the table of the nibbles below i alone
 

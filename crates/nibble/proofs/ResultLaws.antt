@@ -17,7 +17,7 @@ use Rattle.model.proofs.TestLaws.{below}
 use Rattle.nibble.specs.Nibbles.{codeword, decoded, inCode, xorEntry, xorTable, mapEntry, mapTable, result, pairResult, firstAbove, mapCheck, handedBack, mapOutcome}
 use Rattle.nibble.specs.Claims.{Result, XorEntries, MapEntries, Maps, XorResults, MapResults, SameWeights}
 use Rattle.nibble.proofs.CodeLaws.{coding, nibble-inside, decoding}
-use Rattle.nibble.proofs.MapLaws.{not-sixteen, value-above, map-right}
+use Rattle.nibble.proofs.MapLaws.{none-above, not-sixteen, value-above, map-right}
 use Rattle.nibble.proofs.TableLaws.{entry-at, entries-length, xor-at, past-63, within-63, first-past-63, second-past-63, both-within-63}
 
 -- the codeword of n, or 0
@@ -82,19 +82,6 @@ same-weights a b h g =
     }
 
 -- ---- maps
-
-none-above : (m : List ℕ) → length m ≤ firstAbove m → (k : ℕ) → getD m k 0 ≤ 15
-unfolding firstAbove
-none-above [] h k = omega arith
-none-above (v ∷ vs) h k = go (ltb 15 v) refl h (λ g. none-above vs g)
-  where
-    by : (k : ℕ) → v ≤ 15 → ((k : ℕ) → getD vs k 0 ≤ 15) → getD (v ∷ vs) k 0 ≤ 15
-    by zero e ih = e
-    by (suc k) e ih = ih k
-
-    go : (t : Bool) → ltb 15 v ≡ t → suc (length vs) ≤ cond t 0 (suc (firstAbove vs)) → (length vs ≤ firstAbove vs → (k : ℕ) → getD vs k 0 ≤ 15) → getD (v ∷ vs) k 0 ≤ 15
-    go true e g ih = absurd (omega arith)
-    go false e g ih = by k (ltb-false 15 v e) (ih (omega arith))
 
 first-above : (m : List ℕ) (i : ℕ) → i < length m → 15 < getD m i 0 → ((j : ℕ) → j < i → getD m j 0 ≤ 15) → firstAbove m ≡ i
 unfolding firstAbove

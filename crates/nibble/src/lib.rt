@@ -2,8 +2,9 @@
 // answers is written down in specs/Nibbles.
 ghost use mathlib.Core.Path.{_≡_};
 ghost use mathlib.Core.List.{[], _∷_};
+ghost use Prim.Native.Nat.{_≤_};
 ghost use lib.ListN.{length, replicate};
-ghost use Rattle.model.specs.Answers.{report, refused, outcome};
+ghost use Rattle.model.specs.Answers.{report, outcome};
 ghost use Rattle.nibble.specs.Nibbles.{codeword, decoded, xorTable, mapTable, result, pairResult, firstAbove, mapOutcome};
 use model::Answer;
 use table::XOR_TABLE;
@@ -141,45 +142,49 @@ fn first_above(map: &[u8]) -> usize
 }
 
 // C(m(a)) at C(a), over zeros.
-fn fill(map: &[u8]) -> [u8; WORDS]
+fn fill(map: &[u8], table: &mut [u8; WORDS])
     requires { ⌜ length (now map) ≡ 16 ⌝ }
-    ensures { λ r. ⌜ r ≡ mapTable (now (map .entry)) ⌝ }
+    requires { ⌜ 16 ≤ firstAbove (now map) ⌝ }
+    requires { ⌜ now table ≡ replicate 64 0 ⌝ }
+    ensures { λ _. ⌜ now (table .exit) ≡ mapTable (now (map .entry)) ⌝ }
 {
-    let mut table = [0u8; WORDS];
-    let mut a = 0u8;
-    while a < 16 {
-        let at = encode(a) as usize;
-        table[at] = encode(map[a as usize]);
+    let words = CODEWORDS;
+    let mut a: usize = 0;
+    while a < NIBBLES {
+        let at = words[a] as usize;
+        let value = map[a] as usize;
+        table[at] = words[value];
         a += 1;
     }
-    table
 }
 
-fn refused(index: u16) -> MapTable
-    ensures { λ r. ⌜ outcome (report (r .answer)) (r .table ∷ []) ≡ outcome (refused 27 index) (replicate 64 0 ∷ []) ⌝ }
+// The table of a map of nibbles, given by its 16 values, written into a lent one; all 0 after a refusal.
+pub fn map_table_into(map: &[u8], table: &mut [u8; WORDS]) -> Answer
+    ensures { λ r. ⌜ outcome (report r) (now (table .exit) ∷ []) ≡ mapOutcome (now (map .entry)) ⌝ }
 {
-    MapTable {
-        answer: Answer::Refused {
-            number: 27,
-            line: index,
-        },
-        table: [0; WORDS],
-    }
-}
-
-// The table of a map of nibbles, given by its 16 values.
-pub fn map_table(map: &[u8]) -> MapTable
-    ensures { λ r. ⌜ outcome (report (r .answer)) (r .table ∷ []) ≡ mapOutcome (now (map .entry)) ⌝ }
-{
+    *table = [0; WORDS];
     if map.len() != NIBBLES {
-        return refused(0);
+        return Answer::Refused {
+            number: 27,
+            line: 0,
+        };
     }
     let i = first_above(map);
     if i < NIBBLES {
-        return refused(i as u16);
+        return Answer::Refused {
+            number: 27,
+            line: i as u16,
+        };
     }
-    MapTable {
-        answer: Answer::Count(64),
-        table: fill(map),
-    }
+    fill(map, table);
+    Answer::Count(64)
+}
+
+// The same by value.
+pub fn map_table(map: &[u8]) -> MapTable
+    ensures { λ r. ⌜ outcome (report (r .answer)) (r .table ∷ []) ≡ mapOutcome (now (map .entry)) ⌝ }
+{
+    let mut table = [0u8; WORDS];
+    let answer = map_table_into(map, &mut table);
+    MapTable { answer, table }
 }

@@ -6,14 +6,14 @@ use Rattle.dualrail.proofs.Told.{told}
 use Rattle.dualrail.proofs.dualrail_map_table.Statement.{statement}
 use Rattle.dualrail.proofs.dualrail_map_table.Tie as tie
 
-map-table-requires : tie.Need-map-table-requires
-map-table-requires c κs = search needs
+map-table-into-requires : tie.Need-map-table-into-requires
+map-table-into-requires c κs = search needs
 
 pack-requires : tie.Need-pack-requires
 pack-requires c κs = search needs
 
 returns : tie.Need-returns
-returns c = told packed _ _ _ _ (c .pack .ensures) (c .before .before .map-table .ensures)
+returns c = told packed _ _ _ _ (c .pack .ensures) (c .before .map-table-into .ensures)
 
 pub dualrail-map-table-spec : {M : Type 1} → statement M
-dualrail-map-table-spec = tie.close (tie.spec map-table-requires pack-requires returns)
+dualrail-map-table-spec = tie.close (tie.spec map-table-into-requires pack-requires returns)
