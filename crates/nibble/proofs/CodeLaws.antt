@@ -3,14 +3,14 @@
 use mathlib.Core.Path.{_≡_, refl, sym, ap, _∙_}
 use mathlib.Core.Bool.{Bool, true, false, cond, _&&_, false≢true}
 use mathlib.Core.List.{List, [], _∷_}
-use Prim.Native.Nat.{ℕ, _+_, _<_}
+use Prim.Native.Nat.{ℕ, zero, suc, _+_, _<_, _≤_}
 use native.Mathlib.Omega.{arith}
 use borrow.Author.Tests.{ne-eqb, lt-ltb, le-ltb}
 use lib.Count.{ones}
 use lib.Dec.{T, eqb, ltb, eqb→eq, ltb→lt}
 use lib.ListN.{List·getD-eq-default}
 use Rattle.model.proofs.TestLaws.{and-both, allBelow, all-below, below}
-use Rattle.nibble.specs.Nibbles.{codewords, codeword, nibbleFrom, decoded, inCode}
+use Rattle.nibble.specs.Nibbles.{codewords, codeword, nibbleFrom, decoded, inCode, entries}
 use Rattle.nibble.specs.Claims.{Coding, Decoding}
 
 -- ---- coding
@@ -94,13 +94,14 @@ decoded-again c = go (inCode c) refl
     go true e = decoding c .inside e
     go false e = ap codeword (decoding c .outside e)
 
--- ---- the arms of `decode`
+-- ---- the arms of `encode` and `decode`: each names a number, and the last knows that it is none of these, in this order
 
--- an arm's word is the codeword of n
+pub encodes : {n : ℕ} (k : ℕ) → n ≡ k → codeword k ≡ codeword n
+encodes k e = ap codeword (sym e)
+
 pub decodes : {c : ℕ} (n : ℕ) → n < 16 → c ≡ codeword n → n ≡ decoded c
 decodes n h e = sym (coding n h .back) ∙ ap decoded (sym e)
 
--- what the last arm knows: the word is none of ws, in this order
 abbrev pub Others : Type 0 → List ℕ → ℕ → Type 0
 Others P [] c = P
 Others P (w ∷ ws) c = Others (P × (c ≡ w → ⊥)) ws c
@@ -117,3 +118,16 @@ none-from P n (w ∷ ws) c p = rw (ne-eqb c w (before (P × (c ≡ w → ⊥)) w
 pub none-of-them : (c : ℕ) → Others (Unit {0}) codewords c → 255 ≡ decoded c
 unfolding decoded
 none-of-them c p = none-from (Unit {0}) 0 codewords c p
+
+-- the numbers from k on, m of them
+past : (P : Type 0) (k m n : ℕ) → Others P (entries (λ i. i) k m) n → k ≤ n → k + m ≤ n
+unfolding entries
+past P k zero n p h = omega arith
+past P k (suc m) n p h =
+    let Q = P × (n ≡ k → ⊥) in
+    let g : k + 1 ≤ n = below n (k + 1) (λ l. absurd (before Q (entries (λ i. i) (k + 1) m) n p .1 (omega arith))) (λ l. l) in
+    let r = past Q (k + 1) m n p g in
+    omega arith
+
+pub none-below-16 : (n : ℕ) → Others (Unit {0}) (entries (λ i. i) 0 16) n → 0 ≡ codeword n
+none-below-16 n p = above-15 n (past (Unit {0}) 0 16 n p (omega arith))

@@ -21,38 +21,33 @@ pub const WORDS: usize = 64;
 // How many entries the exclusive-or table has: one for each pair of words.
 pub const PAIRS: usize = 4096;
 
-// C of 0 to 15.
-const CODEWORDS: [u8; NIBBLES] = [
-    7,
-    11,
-    13,
-    14,
-    19,
-    21,
-    22,
-    25,
-    26,
-    28,
-    35,
-    37,
-    38,
-    41,
-    42,
-    44,
-];
-
-// Coding: the codeword of a nibble, 0 above 15.
+// Coding: the codeword of a nibble, 0 above 15. It is a match, here and in decoding, because that is compiled to a table which is there once, and
+// an array of constants is made anew at each call.
 pub fn encode(n: u8) -> u8
     ensures { λ r. ⌜ r ≡ codeword n ⌝ }
 {
-    if 15 < n {
-        return 0;
+    match n {
+        0 => 7,
+        1 => 11,
+        2 => 13,
+        3 => 14,
+        4 => 19,
+        5 => 21,
+        6 => 22,
+        7 => 25,
+        8 => 26,
+        9 => 28,
+        10 => 35,
+        11 => 37,
+        12 => 38,
+        13 => 41,
+        14 => 42,
+        15 => 44,
+        _ => 0,
     }
-    CODEWORDS[n as usize]
 }
 
-// Decoding: the nibble of a codeword, 255 outside the code. It is a match because that is compiled to a table which is there once, and an
-// array of 64 constants is made anew at each call.
+// Decoding: the nibble of a codeword, 255 outside the code.
 pub fn decode(c: u8) -> u8
     ensures { λ r. ⌜ r ≡ decoded c ⌝ }
 {
@@ -127,35 +122,24 @@ pub struct MapTable {
     pub table: [u8; WORDS],
 }
 
-// The index of the first value above 15, the length where there is none.
-fn first_above(map: &[u8]) -> usize
-    ensures { λ r. ⌜ r ≡ firstAbove (now (map .entry)) ⌝ }
-{
-    let mut i = 0;
-    while i < map.len() {
-        if 15 < map[i] {
-            return i;
-        }
-        i += 1;
-    }
-    i
-}
-
-// C(m(a)) at C(a), over zeros.
-fn fill(map: &[u8], table: &mut [u8; WORDS])
+// C(m(a)) at C(a), over zeros, up to the first value above 15; its index, 16 where there is none.
+fn fill(map: &[u8], table: &mut [u8; WORDS]) -> usize
     requires { ⌜ length (now map) ≡ 16 ⌝ }
-    requires { ⌜ 16 ≤ firstAbove (now map) ⌝ }
     requires { ⌜ now table ≡ replicate 64 0 ⌝ }
-    ensures { λ _. ⌜ now (table .exit) ≡ mapTable (now (map .entry)) ⌝ }
+    ensures { λ r. ⌜ r ≡ firstAbove (now (map .entry)) ⌝ }
+    ensures { λ r. ⌜ (16 ≤ r → now (table .exit) ≡ mapTable (now (map .entry))) ⌝ }
 {
-    let words = CODEWORDS;
     let mut a: usize = 0;
     while a < NIBBLES {
-        let at = words[a] as usize;
-        let value = map[a] as usize;
-        table[at] = words[value];
+        let value = map[a];
+        if 15 < value {
+            return a;
+        }
+        let at = encode(a as u8) as usize;
+        table[at] = encode(value);
         a += 1;
     }
+    a
 }
 
 // The table of a map of nibbles, given by its 16 values, written into a lent one; all 0 after a refusal.
@@ -169,14 +153,14 @@ pub fn map_table_into(map: &[u8], table: &mut [u8; WORDS]) -> Answer
             line: 0,
         };
     }
-    let i = first_above(map);
+    let i = fill(map, table);
     if i < NIBBLES {
+        *table = [0; WORDS];
         return Answer::Refused {
             number: 27,
             line: i as u16,
         };
     }
-    fill(map, table);
     Answer::Count(64)
 }
 
