@@ -379,8 +379,8 @@ fn operands(count: usize, mut operand: impl FnMut() -> u8) -> Vec<(u8, u8)> {
     (0..count).map(|_| (operand(), operand())).collect()
 }
 
-/// The goal for calls of few nanoseconds: the same code can be a quarter slower by where it lies.
-const CALL_GOAL: f64 = 1.5;
+/// The goal for calls of few nanoseconds, though the same code can be a quarter slower by where it lies.
+const CALL_GOAL: f64 = 1.2;
 
 /// Request 10: coding and look-ups of 4,096 random operands, one call each.
 fn nibbles() {
