@@ -1,4 +1,5 @@
-// The entry points for C and Rust: numbers and slices, a slice as a pointer and then a length, an answer as one u64 (specs/Packing).
+// The entry points for C and Rust: numbers and slices, a slice as a pointer and then a length, a table of fixed length as a pointer alone, an
+// answer as one u64 (specs/Packing).
 // Nothing here allocates, and an empty slice may have any pointer. include/dualrail.h declares these functions.
 ghost use mathlib.Core.Path.{_≡_};
 ghost use mathlib.Core.List.{[], _∷_};

@@ -59,7 +59,7 @@ pub none-filled : (m : List ℕ) → replicate 64 0 ≡ filled m 0
 unfolding entries filledEntry
 none-filled m = refl
 
-pub all-filled : (m : List ℕ) → filled m 16 ≡ mapTable m
+all-filled : (m : List ℕ) → filled m 16 ≡ mapTable m
 unfolding filledEntry mapEntry
 all-filled m = refl
 
@@ -75,7 +75,7 @@ own-entry : (m : List ℕ) (i : ℕ) → i < 16 → codeword (getD m i 0) ≡ fi
 unfolding filledEntry
 own-entry m i h = rw (coding i h .back, lt-ltb i (i + 1) (omega arith))
 
-pub fill-next : (m : List ℕ) (i : ℕ) → i < 16 → set (filled m i) (codeword i) (codeword (getD m i 0)) ≡ filled m (i + 1)
+fill-next : (m : List ℕ) (i : ℕ) → i < 16 → set (filled m i) (codeword i) (codeword (getD m i 0)) ≡ filled m (i + 1)
 fill-next m i h =
     let long = entries-length (filledEntry m i) 0 64 in
     all-entries (filledEntry m (i + 1)) 64 _ (length-set (filled m i) (codeword i) _ ∙ long) (λ k g. at k g (ℕ-discrete k (codeword i)))
