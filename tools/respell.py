@@ -84,14 +84,28 @@ def declared_in(text):
             continue
         if not re.match(r"^[A-Za-z+][\w+'′-]*$", name):
             continue
-        if indent and not re.search(r"[a-z0-9][A-Z]|-", name):
-            continue
-        found.setdefault(name, "abbrev" in mark or "unfoldable" in mark)
+        found.setdefault(name, not indent and ("abbrev" in mark or "unfoldable" in mark))
     return found
 
 
 def words_of(text):
     return set(re.split(r"[\s(){}.;,@\"«»`]+", text))
+
+
+def fields_in(text):
+    """The fields of the records that a file declares."""
+    found, inside = set(), None
+    for line in text.split("\n"):
+        m = re.match(r"^( *)(?:pub |abbrev )*record ", line)
+        if m:
+            inside = len(m[1])
+        elif inside is not None and line.strip() and len(line) - len(line.lstrip()) <= inside:
+            inside = None
+        elif inside is not None:
+            m = DECLARED.match(line)
+            if m:
+                found.add(m[3])
+    return found
 
 
 def main():
@@ -102,6 +116,9 @@ def main():
     own = {}  # module -> {name: is a function}
     for p in lemma_files:
         own[module_of(p, root)] = declared_in(text_of(p))
+    fields = set()
+    for p in lemma_files:
+        fields |= fields_in(text_of(p))
     functions = {n for names in own.values() for n, is_function in names.items() if is_function}
     functions_new = {snake(n, functions) for n in functions}
     lemmas = {n for names in own.values() for n, is_function in names.items() if not is_function} - functions
@@ -125,7 +142,8 @@ def main():
     # a lemma that would meet a function, or a name that stands already
     taken = collections.defaultdict(set)
     for n, new in table.items():
-        taken[new].add(n)
+        if n not in variables and n not in fields:
+            taken[new].add(n)
     for new, olds in sorted(taken.items()):
         if len(olds) == 1:
             continue
@@ -145,7 +163,8 @@ def main():
 
     def turned(text, names, walk):
         def one(m):
-            if m[1] not in names or walk and "-" in m[1] and text[m.start() - 1 : m.start()] == ".":
+            field = m[1] in fields and not walk and (text[m.start() - 1 : m.start()] == "." or re.match(r" [=:]\s", text[m.end() : m.end() + 3]))
+            if m[1] not in names and not field or walk and "-" in m[1] and text[m.start() - 1 : m.start()] == ".":
                 return m[0]
             return table[m[1]]
 

@@ -1,5 +1,8 @@
 // 'The runs of demand 3' of document 01, of what runs. specs/EntryClaims states both claims of the calls of `expand`, `to_image`,
 // `from_image` and `run`, proofs/EntryRuns proves them, and the functions here, which call these entry points, promise them.
+
+#![tactic(auto)]
+
 ghost use Rattle.std.specs.Prelude.{◌≡◌, [], ◌∷◌};
 ghost use Rattle.model.specs.Answers.{report, outcome};
 ghost use Rattle.model.specs.Images.{from_image_outcome};

@@ -2,6 +2,9 @@
 // that is drawn takes each of its values in turn and has it alone while the later places are drawn, so that a place used twice is not
 // drawn again, and a choice is a state of the machine. The old value is not drawn: where the destination may have several, only the
 // distance of the write turns on it; nor is the bus, whose values bus.rt looks at. bytes.rt has the bytes of sets.
+
+#![tactic(auto)]
+
 ghost use Rattle.std.specs.Prelude.{◌≡◌, true, cond, suc, ◌+◌, ◌*◌, ◌<◌, ◌≤◌, eqb, ltb, length, get_or, set, drop};
 ghost use Rattle.model.specs.Limits.{state_size, line_width, row_width};
 ghost use Rattle.model.specs.Stored.{operand_of};

@@ -40,9 +40,9 @@ pub record Raised (a s : ℤ) : Type 0 where
   pub small : up ≤ 2000
   pub is : 65536 + up ≡ raised a
 
-pub in_range_lem : (a z : ℤ) → z ≡ a → lt_z z (negsuc 999) ≡ false → lt_z (pos 1000) z ≡ false → Raised a (z +ℤ pos 1000)
+pub in_range : (a z : ℤ) → z ≡ a → lt_z z (negsuc 999) ≡ false → lt_z (pos 1000) z ≡ false → Raised a (z +ℤ pos 1000)
 unfolding raised
-in_range_lem a z e h g = rw e (go a (rw e at h) (rw e at g))
+in_range a z e h g = rw e (go a (rw e at h) (rw e at g))
   where
     go : (a : ℤ) → lt_z a (negsuc 999) ≡ false → lt_z (pos 1000) a ≡ false → Raised a (a +ℤ pos 1000)
     go (pos n) h g = let l = ltb-false 1000 n g in record { up = n + 1000; sum = refl; small = omega arith; is = rw (le-leb n 1000 l) (omega arith) }

@@ -1,5 +1,8 @@
 // Codewords from measured bits, request 11: of all words of a length with so many ones, ranked by the signal that a probe measures, the run of
 // least spread. What `choose` answers is written down in specs/Codewords, and what that is good for in specs/Claims.
+
+#![tactic(auto)]
+
 ghost use Rattle.std.specs.Prelude.{◌≡◌, [], ◌∷◌, map, ◌≤◌, length, replicate};
 ghost use Rattle.model.specs.Answers.{report, outcome, refused as Report·refused};
 ghost use Rattle.codewords.specs.Codewords.{weights_right, size_right, inputs_right, set_of, choose_outcome};

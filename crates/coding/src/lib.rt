@@ -2,6 +2,9 @@
 // six numbers, and the check of a whole program (7, 3 to 6). Decoding is total: every number gives some field, and the check says
 // whether the numbers are a line. Last the kind of a place, from 'Places of the machine', and the code of a bit, from 'Code, tables,
 // macros', in one of the layouts of request 04.
+
+#![tactic(auto)]
+
 ghost use Rattle.std.specs.Prelude.{◌≡◌, true, map, ◌%◌, ◌^◌, ◌≤◌, ◌<◌, get_or};
 ghost use Rattle.model.specs.Answers.{report};
 ghost use Rattle.model.specs.Layouts.{layout_of, is_six};

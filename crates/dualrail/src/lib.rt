@@ -1,6 +1,9 @@
 // The entry points for C and Rust: numbers and slices, a slice as a pointer and then a length, a table of fixed length as a pointer alone, an
 // answer as one u64 (specs/Packing).
 // Nothing here allocates, and an empty slice may have any pointer. include/dualrail.h declares these functions.
+
+#![tactic(auto)]
+
 ghost use Rattle.std.specs.Prelude.{◌≡◌, [], ◌∷◌, ◌<◌};
 ghost use Rattle.model.specs.Answers.{report};
 ghost use Rattle.model.specs.Text.{read_outcome, write_outcome};

@@ -4,6 +4,9 @@
 // cases of the file `stdin` beside src/, prints `ok` or `WRONG` and the name of each, and the gate holds that to the file `stdout`. The cases
 // are data, read beside the paper, and more cost no proof; notation.rt has how they are written. All here is proved safe and ending; that the
 // answers are right is the contract of what it calls.
+
+#![tactic(auto)]
+
 ghost use Rattle.std.specs.Prelude.{◌≤◌, length};
 
 use crate::notation::{

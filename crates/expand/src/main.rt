@@ -1,5 +1,8 @@
 // The first of the two programs of document 01: reads program text from standard input, and prints its expansion or the refusal. What
 // it prints is the contract of programs::print_expansion; here it is only read and written.
+
+#![tactic(auto)]
+
 ghost use Rattle.std.specs.Prelude.{◌≡◌, ◌+◌, length};
 ghost use Rattle.model.specs.Programs.{input_size};
 ghost use Rattle.programs.specs.Sizes.{expansion_bytes};

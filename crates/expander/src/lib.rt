@@ -1,6 +1,9 @@
 // 'Code, tables, macros' of document 01, the macros: the expansion (23, what the mark check refuses, 17) of stored programs.
 // The crate `pieces` writes the macros; sizes.rt has how long they are, starts.rt the starts of the lines' parts, writing.rt the parts in
 // a lent store.
+
+#![tactic(auto)]
+
 ghost use Rattle.std.specs.Prelude.{◌≡◌, [], ◌∷◌};
 ghost use Rattle.model.specs.Answers.{report, outcome};
 ghost use Rattle.model.specs.Layouts.{Known};

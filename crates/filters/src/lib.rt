@@ -1,5 +1,8 @@
 // What the programs `takein` and `sendout` print (request 08): the converted text of the bytes on standard input, or the refusal, written to a
 // lent store.
+
+#![tactic(auto)]
+
 ghost use Rattle.std.specs.Prelude.{◌≡◌, [], ◌∷◌, ◌<◌};
 ghost use Rattle.model.specs.Answers.{report, outcome};
 ghost use Rattle.model.specs.Text.{fitted};

@@ -1,5 +1,8 @@
 // 'Code, tables, macros' of document 01, the tables and the images of bit states, and the way back, and the moves of request 06: conditions 23,
 // 18 and 19, then a store of 544 bytes, by ranges of places of one kind.
+
+#![tactic(auto)]
+
 ghost use Rattle.std.specs.Prelude.{◌≡◌, cond, ◌&&◌, [], ◌∷◌, ◌+◌, ◌-◌, ◌*◌, ◌≤◌, ◌<◌, eqb, length};
 ghost use Rattle.model.specs.declared.Opcode.{Opcode};
 ghost use Rattle.model.specs.Limits.{state_size};

@@ -1,5 +1,8 @@
 // What the programs read and print line by line: lines of numbers parted by commas, and in reader.rt the line reader. As in the
 // crate `printing`, a byte is written where there is room and counted in any case.
+
+#![tactic(auto)]
+
 ghost use Rattle.std.specs.Prelude.{◌≡◌, [], ◌∷◌, ◌+◌, ◌*◌, ◌/◌, ◌<◌, ◌≤◌, length};
 ghost use Rattle.model.specs.Answers.{report, outcome};
 ghost use Rattle.model.specs.Limits.{row_width};

@@ -1,6 +1,9 @@
 // 'One step' of document 01: what a line reads, makes and writes, one step with its trace row, and a run of steps (conditions 18, 20).
 // A step works on the stored numbers themselves, by the tests that decode them, and makes no line.
 // Reading and writing are total: past the end of a state 0 is read and nothing written, so no operand has to be in range.
+
+#![tactic(auto)]
+
 ghost use Rattle.std.specs.Prelude.{◌≡◌, suc, ◌+◌, ◌-◌, ◌*◌, ◌/◌, ◌%◌, ◌^◌, ◌<◌, ◌≤◌, [], ◌∷◌, length, if◌then◌else◌, slice_index, slice_set};
 ghost use Rattle.model.specs.Limits.{max_lines, row_width, state_size};
 ghost use Rattle.model.specs.Answers.{report, outcome};

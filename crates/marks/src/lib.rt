@@ -1,5 +1,8 @@
 // The mark check of document 01: conditions 10 to 16 of a line, of which 13 no longer occurs, and the check of a stored program (9 to 16).
 // The tests are made on the stored numbers themselves, by the ranges that decode them; no line is made.
+
+#![tactic(auto)]
+
 ghost use Rattle.std.specs.Prelude.{◌≡◌, true, false, ◌&&◌, ℕ, eqb};
 ghost use Rattle.model.specs.Answers.{report};
 ghost use Rattle.model.specs.Places.{kind_of, is_public};

@@ -110,4 +110,4 @@ answer-before p out c A =
     rw (c, w.0.1) (ap (λ (ls : List Line). written ls out) (expand-before (lines p) w.1))
 
 pub as_before : AsBefore
-as_before = record { accepted = accepted_now; were-accepted = accepted_then; expands = expand-before; answers = answer-before }
+as_before = record { accepted = accepted_now; were_accepted = accepted_then; expands = expand-before; answers = answer-before }

@@ -33,19 +33,19 @@ module _ (macros : Macros) (become : Operand → Operand) (Q : Line → Type 0)
     line_by_lem Unmarked op d a b t h = ap (λ (u : Target). mk Unmarked op d a b u ∷ []) (target_by t)
     line_by_lem Marked op d a b t h = agree op d a b t h
 
-    part_by : (l : Line) → Q l → part neighbours f l ≡ part_by macros become l.mark g l
-    part_by l h = line_by_lem l.mark l.opcode l.destination l.first l.second l.target h
+    part_by_lem : (l : Line) → Q l → part neighbours f l ≡ part_by macros become l.mark g l
+    part_by_lem l h = line_by_lem l.mark l.opcode l.destination l.first l.second l.target h
 
     joined_by : (p : List Line) → Every Q p → joined neighbours f p ≡ flat_map (λ l. part_by macros become l.mark g l) p
     unfolding joined
     joined_by [] h = refl
-    joined_by (l ∷ p) h = ap₂ (λ (x y : List Line). x ++ y) (part_by l h.0) (joined_by p h.1)
+    joined_by (l ∷ p) h = ap₂ (λ (x y : List Line). x ++ y) (part_by_lem l h.0) (joined_by p h.1)
 
   start_by_lem : (p : List Line) → Every Q p → (k : ℕ) → start neighbours p k ≡ start_by macros become p k
   unfolding start start_by size
   start_by_lem [] h k = refl
   start_by_lem (l ∷ p) h zero = refl
-  start_by_lem (l ∷ p) h (suc k) = ap₂ (λ (x y : ℕ). x + y) (ap length (part_by (λ t. t) (λ t. t) (λ i. refl) l h.0)) (start_by_lem p h.1 k)
+  start_by_lem (l ∷ p) h (suc k) = ap₂ (λ (x y : ℕ). x + y) (ap length (part_by_lem (λ t. t) (λ t. t) (λ i. refl) l h.0)) (start_by_lem p h.1 k)
 
   pub expand_by_lem : (p : List Line) → Every Q p → expand neighbours p ≡ expand_by macros become p
   unfolding expand expand_by

@@ -175,9 +175,9 @@ earlier_bytes = record {
   backs = back_earlier_lem;
   expanding = expanding_earlier;
   imaging = λ bits image'. carried_same bit_right bit_right (image neighbours) (map_at image_earlier 0) bits image' refl (image_earlier_lem bits);
-  coming-back = λ image' bits. carried_same (image_right neighbours) right_earlier (back neighbours) (map_at back_earlier 0) image' bits (tested (image_right neighbours) right_earlier right_at 0 image') (back_earlier_lem image');
-  expansion-printed = printed_same (λ p. flat_map spell_line (expand neighbours p)) (λ p. flat_map spell_line (expand_earlier p)) (λ p. ap (flat_map spell_line) (expand_earlier_lem p));
-  trace-printed =
+  coming_back = λ image' bits. carried_same (image_right neighbours) right_earlier (back neighbours) (map_at back_earlier 0) image' bits (tested (image_right neighbours) right_earlier right_at 0 image') (back_earlier_lem image');
+  expansion_printed = printed_same (λ p. flat_map spell_line (expand neighbours p)) (λ p. flat_map spell_line (expand_earlier p)) (λ p. ap (flat_map spell_line) (expand_earlier_lem p));
+  trace_printed =
       printed_same (λ p. traced (expand neighbours p) (image neighbours zeros)) (λ p. traced (expand_earlier p) (map_at image_earlier 0 zeros))
       (λ p. ap₂ traced (expand_earlier_lem p) (image_earlier_lem zeros));
 }

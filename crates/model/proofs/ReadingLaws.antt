@@ -93,14 +93,14 @@ module _ (l : Line) where
           first = operand_code l.first;
           second = operand_code l.second;
           target = target_code l.target;
-          mark-is = (mark_exactly _ _).1 (m.1, ap spell_mark m.0);
-          opcode-is = (opcode_exactly _ _).1 (o.1, ap spell_opcode o.0);
-          fills-so =
+          mark_is = (mark_exactly _ _).1 (m.1, ap spell_mark m.0);
+          opcode_is = (opcode_exactly _ _).1 (o.1, ap spell_opcode o.0);
+          fills_so =
               rw (o.0, (operand_text _ l.destination f.destination).filled, (operand_text _ l.first f.first).filled, (operand_text _ l.second f.second).filled, (target_text _ l.target f.target).filled)
               (same_self (fills l.opcode));
-          destination-is = (operand_exactly _ _).1 (d.range, ap spell_operand d.same);
+          destination_is = (operand_exactly _ _).1 (d.range, ap spell_operand d.same);
           place = rw d.same f.place;
-          first-is = (operand_exactly _ _).1 (a.range, ap spell_operand a.same);
+          first_is = (operand_exactly _ _).1 (a.range, ap spell_operand a.same);
           second_is = (operand_exactly _ _).1 (b.range, ap spell_operand b.same);
           target_is = (target_exactly _ _).1 (t.range, ap spell_target t.same);
         })
@@ -151,18 +151,18 @@ module _ (m o d a b t : List ℕ) (ns : List ℕ) (e : parsed_fields m o d a b t
   fields_back : TextLine (join_fields m o d a b t) ns
   fields_back =
       let p : Parts (mark_field m) (opcode_field o) (operand_field d) (operand_field a) (operand_field b) (target_field t) = parsed_parts _ _ _ _ _ _ (ap fault e) in
-      let wm = (mark_exactly m p.mark).0 p.mark-is in
-      let wo = (opcode_exactly o p.opcode).0 p.opcode-is in
-      let wd = (operand_exactly d p.destination).0 p.destination-is in
-      let wa = (operand_exactly a p.first).0 p.first-is in
+      let wm = (mark_exactly m p.mark).0 p.mark_is in
+      let wo = (opcode_exactly o p.opcode).0 p.opcode_is in
+      let wd = (operand_exactly d p.destination).0 p.destination_is in
+      let wa = (operand_exactly a p.first).0 p.first_is in
       let wb = (operand_exactly b p.second).0 p.second_is in
       let wt = (target_exactly t p.target).0 p.target_is in
       let r : Right p.mark p.opcode p.destination p.first p.second p.target = record {
         mark = wm.0;
         opcode = wo.0;
-        fills-so =
+        fills_so =
             rw (← operand_filled p.destination wd.0, ← operand_filled p.first wa.0, ← operand_filled p.second wb.0, ← target_filled p.target wt.0, wd.1, wa.1, wb.1, wt.1)
-            p.fills-so;
+            p.fills_so;
         destination = wd.0;
         place = p.place;
         first = wa.0;

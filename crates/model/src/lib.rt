@@ -1,6 +1,8 @@
 // The types of the language, and what every entry point answers. What they mean is said in specs/: every definition of
 // document 01. What is shown of the definitions alone, demand 3 among it, stands in proofs/. There is no entry point here.
 
+#![tactic(auto)]
+
 // The bounds, as specs/Limits has them: the numbers of a stored line and of a trace row, the bytes of a state, the most
 // lines of a program and of an accepted one, the most lines that one line expands to.
 pub const LINE_WIDTH: usize = 6;

@@ -41,8 +41,8 @@ pub record MapEntries (m : List ℕ) : Type 0 where
 -- which maps have a table, and what is refused
 pub record Maps (m : List ℕ) : Type 0 where
   pub right : length m ≡ 16 → ((i : ℕ) → i < 16 → get_or m i 0 ≤ 15) → map_outcome m ≡ outcome (counted 64) (map_table m ∷ [])
-  pub other_length_lem : (length m ≡ 16 → ⊥) → map_outcome m ≡ outcome (refused 27 0) (replicate 64 0 ∷ [])
-  pub value_above_lem : length m ≡ 16 → (i : ℕ) → i < 16 → 15 < get_or m i 0 → ((j : ℕ) → j < i → get_or m j 0 ≤ 15)
+  pub other_length : (length m ≡ 16 → ⊥) → map_outcome m ≡ outcome (refused 27 0) (replicate 64 0 ∷ [])
+  pub value_above : length m ≡ 16 → (i : ℕ) → i < 16 → 15 < get_or m i 0 → ((j : ℕ) → j < i → get_or m j 0 ≤ 15)
       → map_outcome m ≡ outcome (refused 27 i) (replicate 64 0 ∷ [])
 
 -- ---- a table's result is 0 exactly for an operand outside the code, any above 63 included, else it has three ones, and it decodes to the

@@ -1,5 +1,8 @@
 // The nibble engine of request 10: the (3,6)-code of source 001, its exclusive-or table, and a table for any map of nibbles. What each function
 // answers is written down in specs/Nibbles.
+
+#![tactic(auto)]
+
 ghost use Rattle.std.specs.Prelude.{◌≡◌, [], ◌∷◌, ◌≤◌, length, replicate};
 ghost use Rattle.model.specs.Answers.{report, outcome};
 ghost use Rattle.nibble.specs.Nibbles.{codeword, decoded, xor_table, map_table, result, pair_result, first_above, map_outcome};

@@ -1,5 +1,8 @@
 // The lines that a marked line becomes, written into a lent store as stored numbers: a line, the pieces of the macros, the macros ('Code,
 // tables, macros' of document 01). Each `put_..` writes from line `at` on and hands back the line past its last, where the next goes on.
+
+#![tactic(auto)]
+
 ghost use Rattle.std.specs.Prelude.{◌≡◌, true, [], ◌∷◌, ◌+◌, ◌*◌, ◌%◌, ◌≤◌, ◌<◌, length};
 ghost use Rattle.model.specs.declared.Operand.{Operand};
 ghost use Rattle.model.specs.declared.Target.{Target};

@@ -1,5 +1,8 @@
 // 'Line form' of document 01, the writer of program text: a stored program to its text (conditions 7, 3 to 6, 17). The spelling of stored
 // numbers goes byte by byte. A byte is written where there is room, so that no function here asks for room.
+
+#![tactic(auto)]
+
 ghost use Rattle.std.specs.Prelude.{◌≡◌, ◌+◌, ◌*◌, ◌/◌, ◌%◌, ◌<◌, ◌≤◌};
 ghost use mathlib.Core.List.{[], ◌∷◌, ◌++◌, flat_map};
 ghost use Rattle.model.specs.Answers.{report, outcome};

@@ -1,5 +1,8 @@
 // 'The two programs' of document 01: what they print of the bytes on standard input, written to a lent store, the expansion of the
 // program that the bytes are, and the trace of its run. The crate `lines` reads the lines of a text and prints lines of numbers.
+
+#![tactic(auto)]
+
 ghost use Rattle.std.specs.Prelude.{◌≡◌, [], ◌∷◌, ◌*◌, ◌≤◌, length};
 ghost use Rattle.model.specs.Answers.{report, outcome, counted};
 ghost use Rattle.model.specs.Limits.{line_width, row_width};

@@ -22,7 +22,7 @@ use Rattle.published.proofs.TextLaws.{front_of, front_at, labelled_is, name_plac
 
 pub none_linked : (text heads table : List ℕ) → ((i : ℕ) → get_or heads i 0 ≡ 0) → length heads ≡ buckets → length table ≡ entry_width * max_labels → Linked text heads table 0
 unfolding last_in
-none_linked text heads table e h t = record { few = omega arith; head-room = h; room = t; last = λ b g. e b; before = λ k g. absurd (omega arith) }
+none_linked text heads table e h t = record { few = omega arith; head_room = h; room = t; last = λ b g. e b; before = λ k g. absurd (omega arith) }
 
 -- ---- the label of a line
 

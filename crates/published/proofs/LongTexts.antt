@@ -77,7 +77,7 @@ unfolding read_text mark_check marks_of
 many_lines text k u a =
     let r = reads-back max_lines 0 max_lines text k (read_text text).stored (omega arith) (ap (λ (x : Report). record { answer = x; stored = (read_text text).stored }) a) in
     let ls : List Line = r.lines_are in
-    let more : max_accepted < length ls = below max_accepted (length ls) (λ l. l) (λ l. absurd (u (0 + length ls) (fits_read ls text r.right r.text-is l))) in
+    let more : max_accepted < length ls = below max_accepted (length ls) (λ l. l) (λ l. absurd (u (0 + length ls) (fits_read ls text r.right r.text_is l))) in
     ap₂ and_then (ap program_check r.stored_is ∙ whole_check ls r.right r.few)
     (ap marks_of (ap lines r.stored_is ∙ whole_lines ls r.right) ∙ rw (lt-ltb max_accepted (length ls) more))
 
@@ -142,7 +142,7 @@ module _ (text store new : List ℕ) (a : Answer) (n : ℕ) (c : a ≡ Count n) 
       let k : length ls ≡ n = omega (arith, b.count) in
       let front : take (line_width * n) new ≡ flat_map codes ls =
       ap (take (line_width * n)) (sym (only (ap (λ (o : Outcome). o.stores) q))) ∙ take_at r.stored (drop (length r.stored) store) (line_width * n) (ap length b.stored_is ∙ codes-length ls ∙ ap (λ (j : ℕ). line_width * j) k) ∙ b.stored_is in
-      ap (reading max_lines 0 max_lines) (sym b.text-is) ∙ reads_lines ls b.right max_lines 0 max_lines (omega (arith, b.few)) (omega (arith, b.few))
+      ap (reading max_lines 0 max_lines) (sym b.text_is) ∙ reads_lines ls b.right max_lines 0 max_lines (omega (arith, b.few)) (omega (arith, b.few))
       ∙ ap₂ (λ (j : ℕ) (x : List ℕ). record { answer = counted j; stored = x }) (zero-add (length ls) ∙ k) (sym front)
     where
       only : {x y : List ℕ} → ◌≡◌ {A = List (List ℕ)} (x ∷ []) (y ∷ []) → x ≡ y

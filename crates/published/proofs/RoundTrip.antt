@@ -40,7 +40,7 @@ sent_lines text n k a e =
     let ls : List Line = r.lines_are in
     let same : lines (read_text text).stored ≡ ls = ap lines r.stored_is ∙ whole_lines ls r.right in
     let c = mark_checked_lem (read_text text).stored n e in
-    record { lines_are = ls; stored = r.stored_is; right = r.right; spelled = r.text-is; accepted = subst Accepted same c.0; count = c.1 ∙ sym (length-lines (read_text text).stored) ∙ ap length same }
+    record { lines_are = ls; stored = r.stored_is; right = r.right; spelled = r.text_is; accepted = subst Accepted same c.0; count = c.1 ∙ sym (length-lines (read_text text).stored) ∙ ap length same }
 
 pub sent : (text : List ℕ) (n : ℕ) → send_out_check text ≡ counted n → Sent text n
 unfolding send_out_check read_text

@@ -264,7 +264,7 @@ module _ (text heads table : List ℕ) (m : ℕ) (L : Linked text heads table m)
         by : (t : Bool) → eqb (bucket_of name) h ≡ t → get_or (set heads (bucket_of name) (suc m)) h 0 ≡ cond (eqb (bucket_of name) h) (suc m) (last_in text table h m)
         by true q =
             let z : bucket_of name ≡ h = eqb-true (bucket_of name) h q in
-            rw (q, z) (get_or-set_same heads h (suc m) 0 (omega (arith, L.head-room)))
+            rw (q, z) (get_or-set_same heads h (suc m) 0 (omega (arith, L.head_room)))
         by false q = rw q (get_or-set_other heads (bucket_of name) h (suc m) 0 (λ z. let y : ◌≡◌ {A = Bool} true false = sym (eq-eqb (bucket_of name) h (sym z)) ∙ q in absurd (never y)) ∙ L.last h g)
           where
             never : ◌≡◌ {A = Bool} true false → ⊥
@@ -285,7 +285,7 @@ module _ (text heads table : List ℕ) (m : ℕ) (L : Linked text heads table m)
           linked =
               record {
                 few = few_more;
-                head-room = length-set heads (bucket_of name) (suc m) ∙ L.head-room;
+                head_room = length-set heads (bucket_of name) (suc m) ∙ L.head_room;
                 room = stored-length table m a n line next room_more ∙ L.room;
                 last = heads_new;
                 before = nexts_new in-range;

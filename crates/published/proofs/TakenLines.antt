@@ -155,7 +155,7 @@ module _ (n o : ℕ) (f : Filled) (d a b : List ℕ) (t : ℕ) (ns : List ℕ) (
       let so : same_filled (fills (opcode_of o)) (filled (ltb 0 x.value) (ltb 0 y.value) (ltb 0 z.value) (ltb 0 t)) ≡ true =
       rw (i.1 ∙ hd, j.1 ∙ ha, k.1 ∙ hb, ht, same) (same_self f) in
       let r : Right m o x.value y.value z.value t =
-      record { mark = bit-few (is_sensitive (kind_of (operand_of x.value))); opcode = known; fills-so = so; destination = omega (arith, i.0); place = p.1; first = omega (arith, j.0); second = omega (arith, k.0); target = range } in
+      record { mark = bit-few (is_sensitive (kind_of (operand_of x.value))); opcode = known; fills_so = so; destination = omega (arith, i.0); place = p.1; first = omega (arith, j.0); second = omega (arith, k.0); target = range } in
       record {
         line = line_of m o x.value y.value z.value t;
         is = sym (same_numbers w.1) ∙ sym (right-back m o x.value y.value z.value t r);

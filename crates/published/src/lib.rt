@@ -1,5 +1,8 @@
 // 'The published spelling' of document 02, request 08: a published text taken in, to our line form, and our line form sent out, to a
 // published text. What both mean stands in specs/Published, what is shown of them in specs/Claims.
+
+#![tactic(auto)]
+
 ghost use Rattle.std.specs.Prelude.{◌≡◌, [], ◌∷◌, ◌*◌, length};
 ghost use Rattle.model.specs.Answers.{outcome};
 ghost use Rattle.model.specs.Limits.{line_width, max_accepted};

@@ -1,5 +1,8 @@
 // The fifth program, request 08: reads a program in our line form from standard input, and prints its published text, or the refusal. What it prints is
 // the contract of filters::print_sent; here it is only read and written.
+
+#![tactic(auto)]
+
 ghost use Rattle.std.specs.Prelude.{◌≡◌, ◌+◌, length};
 ghost use Rattle.filters.specs.Filters.{filter_size, sent_bytes};
 

@@ -104,14 +104,14 @@ pub exact : ExactSteps
 exact S F bus l k =
     record {
       all_results = λ s D. in_written S l s F D;
-      each-once = written_once S l;
-      no-others = λ x m. written_in S l x F m;
-      all-buses = λ s b D m. in_buses S bus l s b F D m;
-      each-bus-once = buses_once S bus l;
-      no-other-buses = λ x m. buses_in S bus l x F m;
+      each_once = written_once S l;
+      no_others = λ x m. written_in S l x F m;
+      all_buses = λ s b D m. in_buses S bus l s b F D m;
+      each_bus_once = buses_once S bus l;
+      no_other_buses = λ x m. buses_in S bus l x F m;
       buses_fit = buses_fit S l bus F;
-      like-rows = λ t s u b c D E m n. sym (steady-row S bus l k s b F D m t) ∙ steady-row S bus l k u c F E n t;
-      unlike-rows =
+      like_rows = λ t s u b c D E m n. sym (steady-row S bus l k s b F D m t) ∙ steady-row S bus l k u c F E n t;
+      unlike_rows =
           by_steady (λ c. T (not c) → (s : State) × (u : State) × (b : ℕ) × (c : ℕ) × Drawn S s × Drawn S u × In b bus × In c bus × (row l k s b ≡ row l k u c → ⊥)) S bus l k F
           (λ all t. absurd t) (λ u c E m n t. (heads S, u, get_or bus 0 0, c, heads_drawn S F, E, first_in bus (in_some c bus m), m, n));
     }

@@ -86,7 +86,7 @@ pub record Exact (S : Sets) (bus : List ℕ) (l : Line) (k : ℕ) : Type 0 where
   pub all_results : (s : State) → Drawn S s → In (result l s) (written S l)
   pub each_once : Once (written S l)
   pub no_others : (x : ℕ) → In x (written S l) → (s : State) × Drawn S s × (x ≡ result l s)
-  pub all_buses_lem : (s : State) (b : ℕ) → Drawn S s → In b bus → In (bus_after l s b) (buses S bus l)
+  pub all_buses : (s : State) (b : ℕ) → Drawn S s → In b bus → In (bus_after l s b) (buses S bus l)
   pub each_bus_once : Once (buses S bus l)
   pub no_other_buses : (x : ℕ) → In x (buses S bus l) → (s : State) × (b : ℕ) × Drawn S s × In b bus × (x ≡ bus_after l s b)
   -- the last address is that of one operand, whose base has at most 16 values

@@ -1,6 +1,9 @@
 // Request 01, the verdict on patched listings: what the walk answers, and the sizes of the sets that are lent to it. What a verdict is
 // and what it means is said in specs/ (`Walk`, `Claims`); what is shown of these definitions alone stands in proofs/. There is no entry
 // point here.
+
+#![tactic(auto)]
+
 use model::STATE_SIZE;
 
 // The most values of a set, and the bytes of one.

@@ -1,5 +1,8 @@
 // The fourth program, request 08: reads a published text from standard input, and prints it in our line form, or the refusal. What it prints is
 // the contract of filters::print_taken; here it is only read and written.
+
+#![tactic(auto)]
+
 ghost use Rattle.std.specs.Prelude.{◌≡◌, ◌+◌, length};
 ghost use Rattle.filters.specs.Filters.{filter_size, taken_bytes};
 

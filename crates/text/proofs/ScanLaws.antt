@@ -63,7 +63,7 @@ module _ (s : List ℕ) (at c : ℕ) (h : at < length s) (e : get_or s at 0 ≡ 
       → Based w more s (at + 1) r → Scanned (λ k. spell_operand (operand_of k)) s at r
   signed w more form r x p =
       let y = x p in
-      let q : spell_operand (operand_of (number_of r)) ≡ c ∷ based y.base y.offset = ap (λ (j : ℕ). spell_operand (operand_of j)) y.number ∙ form y.base y.offset y.base-below y.offset-below in
+      let q : spell_operand (operand_of (number_of r)) ≡ c ∷ based y.base y.offset = ap (λ (j : ℕ). spell_operand (operand_of j)) y.number ∙ form y.base y.offset y.base_below y.offset_below in
       byte_there s at c h e ∙ ap (λ (l : List ℕ). c ∷ l) y.text ∙ ap (λ (l : List ℕ). l ++ drop (position_of r) s) (sym q)
 
   pub led : (spell : ℕ → List ℕ) (r : ℕ) → Scanned spell s (at + 1) r → Scanned (λ k. c ∷ spell k) s at r
@@ -88,8 +88,8 @@ module _ (s : List ℕ) (at w more q b plus : ℕ) (x : Numbered (drop (at + 1) 
       record {
         base = b;
         offset = number_of r - (more + w * b);
-        base-below = omega (arith, there.below);
-        offset-below = omega (arith, (y o).least, (y o).below);
+        base_below = omega (arith, there.below);
+        offset_below = omega (arith, (y o).least, (y o).below);
         number = omega (arith, (y o).least);
         text =
             byte_there s at 114 h f

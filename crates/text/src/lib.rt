@@ -1,4 +1,7 @@
 // 'Line form' of document 01, the reader of program text: any bytes to stored lines, six numbers to a line (conditions 1 to 8).
+
+#![tactic(auto)]
+
 ghost use Rattle.std.specs.Prelude.{◌≡◌, ◌+◌, ◌≤◌, [], ◌∷◌, length, drop};
 ghost use Rattle.std.proofs.lemmas.List.Edits.{sets};
 ghost use Rattle.model.specs.Answers.{report, outcome};

@@ -1,5 +1,8 @@
 // The second of the two programs of document 01: reads program text from standard input, and prints the trace of its expansion or the
 // refusal. What it prints is the contract of programs::print_trace; here it is only read and written.
+
+#![tactic(auto)]
+
 ghost use Rattle.std.specs.Prelude.{◌≡◌, ◌+◌, length};
 ghost use Rattle.model.specs.Programs.{input_size};
 ghost use Rattle.programs.specs.Sizes.{trace_bytes};

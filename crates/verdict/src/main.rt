@@ -1,5 +1,8 @@
 // The third program: reads machine text from standard input, and prints the verdict on it or the refusal, in one line. What it prints is
 // the contract of verdicts::print_verdict; here it is only read and written.
+
+#![tactic(auto)]
+
 ghost use Rattle.std.specs.Prelude.{◌≡◌, ◌+◌, length};
 ghost use Rattle.verdicts.specs.Verdicts.{verdict_size, verdict_bytes};
 

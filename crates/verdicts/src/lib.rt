@@ -1,5 +1,8 @@
 // What the third program prints of the bytes on standard input: the verdict of the walk on the machine text that they are, from the
 // sets of all images of bit states whose public places are 0.
+
+#![tactic(auto)]
+
 ghost use Rattle.std.specs.Prelude.{◌≡◌, [], ◌∷◌, suc, ◌+◌, ◌*◌, ◌<◌, length, set};
 ghost use Rattle.model.specs.Answers.{report, outcome};
 ghost use Rattle.model.specs.Images.{image_at};

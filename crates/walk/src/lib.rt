@@ -1,5 +1,8 @@
 // Req 01, the verdict on patched listings: a walk over a stored program whose steps work on sets of values. The crate `sets` has the
 // definitions and what a verdict means, `choices` the bytes of sets and what a line does in all states of the sets.
+
+#![tactic(auto)]
+
 ghost use Rattle.std.specs.Prelude.{◌≡◌, [], ◌∷◌, map, ℕ, ◌*◌, ◌<◌, ◌≤◌, T, length, get_or};
 ghost use Rattle.model.specs.Limits.{state_size, line_width, max_lines};
 ghost use Rattle.model.specs.Places.{kind};

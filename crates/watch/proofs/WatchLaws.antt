@@ -218,9 +218,9 @@ module _ (p : List ℕ) (start budget : ℕ) (s₀ t₀ : List ℕ) (ws₀ : Lis
           rw i.on (omega (arith, k)),
         )
 
-    pub goes_to : (t' : Turn) (s' tr' : List ℕ) → moment t' s' tr' ≡ turned p budget m → length tr' ≡ length tr → Stands t'.going t' s' tr' ws' × (fuel budget t' < fuel budget t)
+    pub goes_to_lem : (t' : Turn) (s' tr' : List ℕ) → moment t' s' tr' ≡ turned p budget m → length tr' ≡ length tr → Stands t'.going t' s' tr' ws' × (fuel budget t' < fuel budget t)
     unfolding turned
-    goes_to t' s' tr' e = subst Next (sym e) (by_end (leb (line_count p) t.counter) refl)
+    goes_to_lem t' s' tr' e = subst Next (sym e) (by_end (leb (line_count p) t.counter) refl)
       where
         by_budget : t.counter < line_count p → (u : Bool) → leb budget t.steps ≡ u → Next (cond u (ended m) (stepped p m))
         by_budget h true f = spent_next h (leb-true _ _ f)

@@ -61,7 +61,7 @@ use Rattle.watch.specs.declared.Watch.{Watch}
 use Rattle.watch.specs.declared.Turn.{Turn}
 use Rattle.watch.specs.Watches.{unwatchable as unwatchable-of, both}
 use Rattle.watch.specs.Turns.{noted as Noted-of, admission, begun as begun-of, moment, turned as turned-of, told as told_of}
-use Rattle.watch.proofs.WatchLaws.{fuel, Going, Stands, begins_at, goes_to}
+use Rattle.watch.proofs.WatchLaws.{fuel, Going, Stands, begins_at, goes_to_lem}
 use Rattle.watch.proofs.Again.{LentAgain, lends_again, comes_back, LentShared, shares_again, shared_back}
 use Rattle.watch.proofs.ArrayLent.{shares_array, shared_array}
 use Rattle.watch.specs.contracts.Watch as T
@@ -335,11 +335,11 @@ module _ {M : Type 1} {𝓤 : Ura M} (𝓛 : Logic 𝓤) (at_mem : Memory → SP
       same_w = lw ∙ i.same_w;
       typed = is;
       on-bus = f.1;
-      stands = subst (λ (us : List Watch). Standing c t.going t s tr us) (sym e) (goes_to p start budget s₀ t₀ ws₀ small c.checked i.turn i.state i.trace i.watches (going i g) t s tr f.0 lt).0;
+      stands = subst (λ (us : List Watch). Standing c t.going t s tr us) (sym e) (goes_to_lem p start budget s₀ t₀ ws₀ small c.checked i.turn i.state i.trace i.watches (going i g) t s tr f.0 lt).0;
     }
 
     next-falls : (i : Here c) → i.turn.going ≡ true → (t : Turn) (s tr : List ℕ) → IsTurned i t s tr → length tr ≡ length i.trace → fuel budget t < fuel budget i.turn
-    next-falls i g t s tr f lt = (goes_to p start budget s₀ t₀ ws₀ small c.checked i.turn i.state i.trace i.watches (going i g) t s tr f.0 lt).1
+    next-falls i g t s tr f lt = (goes_to_lem p start budget s₀ t₀ ws₀ small c.checked i.turn i.state i.trace i.watches (going i g) t s tr f.0 lt).1
 
   -- ---- the calls: what their triples bind outside, what goes to them, and what they say
 
