@@ -14,7 +14,7 @@ use model::Answer;
 pub mod moves;
 pub mod verdicts;
 
-#[derive(Drop)]
+#[derive(Clone, Copy)]
 pub struct Twins {
     pub one: Answer,
     pub other: Answer,
@@ -43,7 +43,7 @@ pub fn twin_runs(
     }
 }
 
-#[derive(Drop)]
+#[derive(Clone, Copy)]
 pub struct Followed {
     pub source: Answer,
     pub expansion: Answer,

@@ -13,7 +13,7 @@ ghost use Rattle.balance.specs.MoveClaims.{state_left, Continuing, ContinuedCall
 use super::Twins;
 use model::Answer;
 
-#[derive(Drop)]
+#[derive(Clone, Copy)]
 pub struct ByBits {
     pub moved: Answer,
     pub bits: Answer,
@@ -54,7 +54,7 @@ pub fn move_by_bits(
     }
 }
 
-#[derive(Drop)]
+#[derive(Clone, Copy)]
 pub struct ThereAndBack {
     pub there: Answer,
     pub back: Answer,
@@ -94,7 +94,7 @@ pub fn move_home(
     ThereAndBack { there, back }
 }
 
-#[derive(Drop)]
+#[derive(Clone, Copy)]
 pub struct RanAndMoved {
     pub run: Answer,
     pub moved: Answer,
@@ -128,7 +128,7 @@ pub fn run_and_move(
     RanAndMoved { run, moved: answer }
 }
 
-#[derive(Drop)]
+#[derive(Clone, Copy)]
 pub struct ContinuedRun {
     pub before: RanAndMoved,
     pub after: Answer,
@@ -197,7 +197,7 @@ pub fn continue_run(
     }
 }
 
-#[derive(Drop)]
+#[derive(Clone, Copy)]
 pub struct MovedTwins {
     pub one: Answer,
     pub other: Answer,

@@ -12,7 +12,7 @@ ghost use Rattle.balance.specs.VerdictClaims.{DrawnTwins, AsJudged, verdict_on};
 use model::{Answer, LINE_WIDTH};
 use sets::Verdict;
 
-#[derive(Drop)]
+#[derive(Clone, Copy)]
 pub struct JudgedRuns {
     pub verdict: Verdict,
     pub one: Answer,
@@ -45,7 +45,7 @@ pub fn judged_runs(
     }
 }
 
-#[derive(Drop)]
+#[derive(Clone, Copy)]
 pub struct JudgedExpansion {
     pub expanded: Answer,
     pub verdict: Verdict,

@@ -63,7 +63,7 @@ fn place_of(line: &[u16], level: usize, state: &[u8]) -> usize
 }
 
 // A place of the arguments that has several values, and its number; past the last number where there is none.
-#[derive(Drop)]
+#[derive(Clone, Copy)]
 struct Open {
     level: usize,
     at: usize,

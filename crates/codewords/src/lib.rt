@@ -18,7 +18,7 @@ mod keys;
 pub const SET: usize = 16;
 
 // The answer, and the set in ranked order, 0 in unused entries, after a refusal in all.
-#[derive(Drop)]
+#[derive(Clone, Copy)]
 pub struct Chosen {
     pub answer: Answer,
     pub set: [u8; SET],

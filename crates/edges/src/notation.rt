@@ -313,7 +313,7 @@ fn holds(list: &[u8], bytes: &[u8], numbers: &[u16]) -> bool {
 
 // An answer as a case writes it, `count 3`, `refused 5 0`, `halted 1 1` or `spent 0 5`: the first letter, which tells the four apart, and
 // the numbers.
-#[derive(Drop)]
+#[derive(Clone, Copy)]
 struct Told {
     letter: u8,
     one: usize,

@@ -11,14 +11,14 @@ use text::line::refusal;
 use text::{Parsed, front_at, keep_at};
 
 // What stands at a position: the end of the text, or a line, read or refused.
-#[derive(Drop)]
+#[derive(Clone, Copy)]
 enum Step {
     End,
     Line(Parsed),
 }
 
 // What stands at a position, and the position after it.
-#[derive(Drop)]
+#[derive(Clone, Copy)]
 struct Taken {
     step: Step,
     at: usize,
@@ -48,7 +48,7 @@ fn after(text: &[u8], at: usize) -> usize
 }
 
 // The reader. It is copied, not lent: the one past a line is a new one.
-#[derive(Drop)]
+#[derive(Clone, Copy)]
 pub(crate) struct Reader<'a> {
     text: &'a [u8],
     at: usize,

@@ -188,7 +188,7 @@ fn literal(code: u16) -> u8
 }
 
 // What an operand reads, and its place, past the state where there is none.
-#[derive(Drop)]
+#[derive(Clone, Copy)]
 struct Fetched {
     at: usize,
     value: u8,
@@ -212,7 +212,7 @@ fn fetch(code: u16, state: &[u8]) -> Fetched
 }
 
 // The two arguments of a line.
-#[derive(Drop)]
+#[derive(Clone, Copy)]
 struct Arguments {
     first: u8,
     second: u8,
@@ -296,7 +296,7 @@ fn mask_arguments(mark: Mark, x: Fetched, y: Fetched, masks: &[u8; PLACES]) -> A
 }
 
 // What a write replaced: the place as it was named before the write, and the old value there.
-#[derive(Drop)]
+#[derive(Clone, Copy)]
 struct Replaced {
     at: usize,
     old: u8,
@@ -363,7 +363,7 @@ pub fn distance_of(weights: &[u16; PLACES], x: u16, y: u16) -> u16
 }
 
 // What an operand's address shows on the bus: the bus afterwards, and the address's weight and its distance from the one before.
-#[derive(Drop)]
+#[derive(Clone, Copy)]
 struct OnBus {
     bus: u16,
     weight: u16,
@@ -419,7 +419,7 @@ fn row_of(
 }
 
 // What a line does on a state: the value that it writes, the place, past the state where there is none, and the row.
-#[derive(Drop)]
+#[derive(Clone, Copy)]
 pub struct Effect {
     pub result: u8,
     pub place: usize,
@@ -477,7 +477,7 @@ pub fn next_of(m: u16, o: u16, a: u16, b: u16, t: u16, counter: u16, state: &[u8
 }
 
 // What a step answers: the next counter, the bus, and its trace row.
-#[derive(Drop)]
+#[derive(Clone, Copy)]
 struct Done {
     next: u16,
     bus: u16,
@@ -523,7 +523,7 @@ fn perform(
 }
 
 // What a step answers that tells the written place too, past the state where there is none.
-#[derive(Drop)]
+#[derive(Clone, Copy)]
 struct DoneSeen {
     next: u16,
     bus: u16,

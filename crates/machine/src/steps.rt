@@ -7,7 +7,7 @@ ghost use Rattle.machine.specs.Loop.{addresses, Masks, Weights, machine, run_of,
 
 use super::PLACES;
 
-#[derive(Drop)]
+#[derive(Clone, Copy)]
 pub struct Run {
     pub counter: u16,
     pub steps: u16,
@@ -15,7 +15,7 @@ pub struct Run {
 }
 
 // A run after a step, and the place that the step wrote, past the state where it wrote none.
-#[derive(Drop)]
+#[derive(Clone, Copy)]
 pub struct Stepped {
     pub counter: u16,
     pub steps: u16,

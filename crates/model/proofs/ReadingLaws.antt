@@ -10,7 +10,7 @@ use lib.Dec.{T, leb, eqb}
 use borrow.Author.Tests.{eq-eqb, eqb-true, lt-leb, leb-false}
 use Rattle.model.specs.declared.Line.{Line}
 use Rattle.model.specs.Limits.{line_reach}
-use Rattle.model.specs.Lines.{filled, fills, correct}
+use Rattle.model.specs.Lines.{fills, correct}
 use Rattle.model.specs.Stored.{mark_code, opcode_code, operand_code, target_code, codes, line_of, Parsed, numbers, wrong, parsed, fault}
 use Rattle.model.specs.Text.{newline, comma, spell_mark, spell_opcode, spell_operand, spell_target, spell_line, mark_field, opcode_field, operand_field, target_field, up_to, past, count_of, skip, parsed_text, front_line}
 use Rattle.model.proofs.StoredLaws.{Parts, parts_parsed_lem, parsed_parts, Right, right-back, right-correct, same_self, correct_fields, mark_there, opcode_there, operand_there, target_there}

@@ -18,13 +18,13 @@ pub const MAX_ACCEPTED: usize = 1024;
 pub const LONGEST: usize = 18;
 
 // Whether a line handles key bits: u is Unmarked, s is Marked.
-#[derive(Drop)]
+#[derive(Clone, Copy)]
 pub enum Mark {
     Unmarked,
     Marked,
 }
 
-#[derive(Drop)]
+#[derive(Clone, Copy)]
 pub enum Opcode {
     Nop,
     Jmp,
@@ -42,7 +42,7 @@ pub enum Opcode {
 }
 
 // One field of a line: empty, `#n`, `rN`, `@n`, and the indirect forms `!rN+k`, `%rN+k` and `^rN+k`.
-#[derive(Drop)]
+#[derive(Clone, Copy)]
 pub enum Operand {
     Empty,
     Literal(u8),
@@ -54,14 +54,14 @@ pub enum Operand {
 }
 
 // What a place may hold: r4 to r15 and cells 0 to 127 are public, r16 to r31 and cells 128 to 255 sensitive, all others neither.
-#[derive(Drop)]
+#[derive(Clone, Copy)]
 pub enum Kind {
     Neither,
     Public,
     Sensitive,
 }
 
-#[derive(Drop)]
+#[derive(Clone, Copy)]
 pub enum Target {
     Empty,
     Line(u16),
@@ -69,7 +69,7 @@ pub enum Target {
 
 // How the code's two bits lie: the codes of 1 and of 0, both bits together, whether a bit lies between the two, and where the tables of
 // orr and xor begin, counted from cell 256, where that of and begins. `layout_of` of specs/Layouts makes it of a position and a spacing.
-#[derive(Drop)]
+#[derive(Clone, Copy)]
 pub struct Layout {
     pub one: u8,
     pub zero: u8,
@@ -79,7 +79,7 @@ pub struct Layout {
     pub xor: u8,
 }
 
-#[derive(Drop)]
+#[derive(Clone, Copy)]
 pub struct Line {
     pub mark: Mark,
     pub opcode: Opcode,
@@ -90,7 +90,7 @@ pub struct Line {
 }
 
 // What an entry point answers. `report` of specs/Answers gives the paper's number and values of each case.
-#[derive(Drop)]
+#[derive(Clone, Copy)]
 pub enum Answer {
     // The lines read, checked or expanded, or the bytes written.
     Count(u32),

@@ -118,7 +118,7 @@ pub fn xor(a: u8, b: u8) -> u8
 // ---- a map's table
 
 // The answer, and the table, all 0 after a refusal.
-#[derive(Drop)]
+#[derive(Clone, Copy)]
 pub struct MapTable {
     pub answer: Answer,
     pub table: [u8; WORDS],

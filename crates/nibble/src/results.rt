@@ -30,7 +30,7 @@ pub fn xor_result(a: u8, b: u8) -> u8
     xor(a, b)
 }
 
-#[derive(Drop)]
+#[derive(Clone, Copy)]
 pub struct Looked {
     pub answer: Answer,
     pub result: u8,

@@ -17,7 +17,7 @@ fn bytes(answer: Converted) -> usize
     }
 }
 
-#[derive(Drop)]
+#[derive(Clone, Copy)]
 pub struct RoundTrip {
     pub sent: Converted,
     pub taken: Converted,
@@ -36,7 +36,7 @@ pub fn come_home(text: &[u8], published: &mut [u8], home: &mut [u8]) -> RoundTri
     RoundTrip { sent, taken }
 }
 
-#[derive(Drop)]
+#[derive(Clone, Copy)]
 pub struct TwoTrips {
     pub taken: Converted,
     pub again: RoundTrip,

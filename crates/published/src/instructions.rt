@@ -14,7 +14,7 @@ use text::Field;
 use text::fields::{no_literal, opcode};
 
 // The stored numbers of an instruction; its target, where it has one, is the line that a label names.
-#[derive(Drop)]
+#[derive(Clone, Copy)]
 pub struct Instruction {
     pub mark: u16,
     pub opcode: u16,
@@ -26,7 +26,7 @@ pub struct Instruction {
 }
 
 // What reading an instruction finds: its numbers, or the number of the condition that holds.
-#[derive(Drop)]
+#[derive(Clone, Copy)]
 pub enum Read {
     Line(Instruction),
     Refused(u8),

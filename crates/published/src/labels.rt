@@ -35,7 +35,7 @@ pub(crate) fn table_room() -> [usize; TABLE_ROOM]
 }
 
 // What looking a name up finds: the line that it names, or nothing.
-#[derive(Drop)]
+#[derive(Clone, Copy)]
 pub enum Found {
     Line(usize),
     Missing,

@@ -25,7 +25,7 @@ use sending::{converted, publish, read_through};
 use taking::{collect, convert};
 
 // What a conversion answers: the count of bytes written, or the number of the condition that holds and the text line.
-#[derive(Drop)]
+#[derive(Clone, Copy)]
 pub enum Converted {
     Count(usize),
     Refused { number: u8, line: usize },

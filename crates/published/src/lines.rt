@@ -6,7 +6,7 @@ use crate::parts::{after, blanks, word};
 use text::cut::find;
 
 // Where a line's parts stand: from its first part to a comment or its end, the place past its newline, and whether it has one.
-#[derive(Drop)]
+#[derive(Clone, Copy)]
 pub struct Place {
     pub start: usize,
     pub size: usize,

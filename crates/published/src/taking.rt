@@ -15,7 +15,7 @@ use model::MAX_ACCEPTED;
 use text::{Stored, keep_at};
 
 // What the first pass finds: how many labels the text has, and how many lines stand before the first that is double or beyond the limits.
-#[derive(Drop)]
+#[derive(Clone, Copy)]
 pub struct Tally {
     pub labels: usize,
     pub clean: usize,

@@ -16,7 +16,7 @@ pub const SETS_SIZE: usize = SET_WIDTH * STATE_SIZE;
 
 // What the walk answers: balanced or spent, as a run would be halted or spent, with counter and steps; a leak, with the first line where
 // two choices give different rows and the steps done before it; or the number of the condition that holds, and the line.
-#[derive(Drop)]
+#[derive(Clone, Copy)]
 pub enum Verdict {
     Balanced { counter: u16, steps: u16 },
     Spent { counter: u16, steps: u16 },

@@ -19,14 +19,14 @@ use crate::scanning::take;
 use model::{Answer, LINE_WIDTH, MAX_LINES};
 
 // What reading a field finds: the field's stored number, or that its spelling is wrong.
-#[derive(Drop)]
+#[derive(Clone, Copy)]
 pub enum Field {
     Is(u16),
     Wrong,
 }
 
 // The six stored numbers of a line.
-#[derive(Drop)]
+#[derive(Clone, Copy)]
 pub struct Stored {
     pub mark: u16,
     pub opcode: u16,
@@ -37,7 +37,7 @@ pub struct Stored {
 }
 
 // What parsing a line finds: its numbers, or the number of the condition that holds.
-#[derive(Drop)]
+#[derive(Clone, Copy)]
 pub enum Parsed {
     Line(Stored),
     Refused(u8),

@@ -24,7 +24,7 @@ use model::{Answer, LINE_WIDTH, Mark, Opcode, ROW_WIDTH, STATE_SIZE};
 use sets::{MAX_VALUES, SET_WIDTH, SETS_SIZE, Verdict};
 
 // What one step on sets answers: the next counter, or how the walk ends.
-#[derive(Drop)]
+#[derive(Clone, Copy)]
 enum Move {
     To(u16),
     Leaks,

@@ -24,7 +24,7 @@ pub const MAX_WATCHES: usize = 8;
 // A watch names a place, as in the state: register N, or 32 + n for cell n. After a run it holds the place's last value, how many writes
 // reached it, and the step of the last one: 0 for none, the first step is 1.
 #[repr(C)]
-#[derive(Drop)]
+#[derive(Clone, Copy)]
 pub struct Watch {
     pub place: u16,
     pub value: u8,
@@ -121,7 +121,7 @@ fn admit(program: &[u16], budget: u16, size: usize, room: usize, wrong: bool) ->
 
 // Where a watched run stands between two turns: whether it goes on, the run's counter, step tally and bus, and the place that its last step
 // wrote.
-#[derive(Drop)]
+#[derive(Clone, Copy)]
 struct Turn {
     going: bool,
     counter: u16,
@@ -261,7 +261,7 @@ fn unused_all(places: [u16; MAX_WATCHES]) -> [Watch; MAX_WATCHES]
 }
 
 // What a watched run answers, and its watches.
-#[derive(Drop)]
+#[derive(Clone, Copy)]
 pub struct Seen {
     pub answer: Answer,
     pub watches: [Watch; MAX_WATCHES],

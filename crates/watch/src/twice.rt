@@ -9,7 +9,7 @@ ghost use Rattle.watch.specs.Claims.{SameCalls};
 use crate::{MAX_WATCHES, Seen, watch_places};
 use model::Answer;
 
-#[derive(Drop)]
+#[derive(Clone, Copy)]
 pub struct Twice {
     pub seen: Seen,
     pub alone: Answer,
