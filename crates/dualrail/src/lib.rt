@@ -15,7 +15,7 @@ ghost use Rattle.images.specs.Moving.{move_outcome};
 ghost use Rattle.sets.specs.Walk.{told, verdict_report};
 ghost use Rattle.published.specs.Published.{take_in_outcome, send_out_outcome, conversion};
 ghost use Rattle.watch.specs.Watches.{watch_outcome};
-ghost use Rattle.nibble.specs.Nibbles.{codeword, decoded, xor_table, result, pair_result, map_outcome};
+ghost use Rattle.nibble.specs.Nibbles.{codeword, decoded, xor_table, result_of, pair_result, map_outcome};
 ghost use Rattle.codewords.specs.Codewords.{choose_outcome};
 ghost use Rattle.dualrail.specs.Packing.{placed, packed, packed_run};
 
@@ -28,7 +28,7 @@ use watch::Watch;
 
 // The entry points below but `run` give no ending, and `run` gives no count: these arms are what the definition says of them.
 fn pack(answer: Answer) -> u64
-    ensures* { λ r. ⌜ r ≡ packed (report answer) ⌝ }
+    ensures { result ≡ packed (report answer) }
 {
     match answer {
         Answer::Count(n) => n as u64,
@@ -46,7 +46,7 @@ fn pack(answer: Answer) -> u64
 
 // A line as far as 32 bits hold it.
 fn place(line: usize) -> u64
-    ensures* { λ r. ⌜ (r ≡ placed line) × (r < 4294967296) ⌝ }
+    ensures { (result ≡ placed line) × (result < 4294967296) }
 {
     if line < 4294967295 {
         return line as u64;
@@ -55,7 +55,7 @@ fn place(line: usize) -> u64
 }
 
 fn pack_conversion(answer: Converted) -> u64
-    ensures* { λ r. ⌜ r ≡ packed (conversion answer) ⌝ }
+    ensures { result ≡ packed (conversion answer) }
 {
     match answer {
         Converted::Count(n) => n as u64,
@@ -64,7 +64,7 @@ fn pack_conversion(answer: Converted) -> u64
 }
 
 fn pack_run(answer: Answer) -> u64
-    ensures* { λ r. ⌜ r ≡ packed_run (report answer) ⌝ }
+    ensures { result ≡ packed_run (report answer) }
 {
     match answer {
         Answer::Count(n) => (n as u64) * 4294967296,
@@ -78,23 +78,23 @@ fn pack_run(answer: Answer) -> u64
 
 #[unsafe(no_mangle)]
 pub extern "C" fn dualrail_read(text: &[u8], store: &mut [u16]) -> u64
-    ensures* r_value { λ r. ⌜ r ≡ packed (read_outcome text.now store.old).answer ⌝ }
-    ensures* store_after { λ _. ⌜ store.new ∷ [] ≡ (read_outcome text.now store.old).stores ⌝ }
+    ensures answer { result ≡ packed (read_outcome text.now store.old).answer }
+    ensures stores { store.new ∷ [] ≡ (read_outcome text.now store.old).stores }
 {
     pack(text::read(text, store))
 }
 
 #[unsafe(no_mangle)]
 pub extern "C" fn dualrail_write(program: &[u16], out: &mut [u8]) -> u64
-    ensures* r_value { λ r. ⌜ r ≡ packed (write_outcome program.now out.old).answer ⌝ }
-    ensures* out_after { λ _. ⌜ out.new ∷ [] ≡ (write_outcome program.now out.old).stores ⌝ }
+    ensures answer { result ≡ packed (write_outcome program.now out.old).answer }
+    ensures stores { out.new ∷ [] ≡ (write_outcome program.now out.old).stores }
 {
     pack(printing::write(program, out))
 }
 
 #[unsafe(no_mangle)]
 pub extern "C" fn dualrail_check(program: &[u16]) -> u64
-    ensures* { λ r. ⌜ r ≡ packed (mark_check program.now) ⌝ }
+    ensures { result ≡ packed (mark_check program.now) }
 {
     pack(marks::check(program))
 }
@@ -106,16 +106,16 @@ pub extern "C" fn dualrail_expand(
     program: &[u16],
     out: &mut [u16],
 ) -> u64
-    ensures* r_value { λ r. ⌜ r ≡ packed (expand_outcome position spacing program.now out.old).answer ⌝ }
-    ensures* out_after { λ _. ⌜ out.new ∷ [] ≡ (expand_outcome position spacing program.now out.old).stores ⌝ }
+    ensures answer { result ≡ packed (expand_outcome position spacing program.now out.old).answer }
+    ensures stores { out.new ∷ [] ≡ (expand_outcome position spacing program.now out.old).stores }
 {
     pack(expander::expand(position, spacing, program, out))
 }
 
 #[unsafe(no_mangle)]
 pub extern "C" fn dualrail_to_image(position: u8, spacing: u8, bits: &[u8], image: &mut [u8]) -> u64
-    ensures* r_value { λ r. ⌜ r ≡ packed (to_image_outcome position spacing bits.now image.old).answer ⌝ }
-    ensures* image_after { λ _. ⌜ image.new ∷ [] ≡ (to_image_outcome position spacing bits.now image.old).stores ⌝ }
+    ensures answer { result ≡ packed (to_image_outcome position spacing bits.now image.old).answer }
+    ensures stores { image.new ∷ [] ≡ (to_image_outcome position spacing bits.now image.old).stores }
 {
     pack(images::to_image(position, spacing, bits, image))
 }
@@ -127,8 +127,8 @@ pub extern "C" fn dualrail_from_image(
     image: &[u8],
     bits: &mut [u8],
 ) -> u64
-    ensures* r_value { λ r. ⌜ r ≡ packed (from_image_outcome position spacing image.now bits.old).answer ⌝ }
-    ensures* bits_after { λ _. ⌜ bits.new ∷ [] ≡ (from_image_outcome position spacing image.now bits.old).stores ⌝ }
+    ensures answer { result ≡ packed (from_image_outcome position spacing image.now bits.old).answer }
+    ensures stores { bits.new ∷ [] ≡ (from_image_outcome position spacing image.now bits.old).stores }
 {
     pack(images::from_image(position, spacing, image, bits))
 }
@@ -142,8 +142,8 @@ pub extern "C" fn dualrail_move_image(
     from: &[u8],
     into: &mut [u8],
 ) -> u64
-    ensures* r_value { λ r. ⌜ r ≡ packed (move_outcome old_position old_spacing new_position new_spacing from.now into.old).answer ⌝ }
-    ensures* into_after { λ _. ⌜ into.new ∷ [] ≡ (move_outcome old_position old_spacing new_position new_spacing from.now into.old).stores ⌝ }
+    ensures answer { result ≡ packed (move_outcome old_position old_spacing new_position new_spacing from.now into.old).answer }
+    ensures stores { into.new ∷ [] ≡ (move_outcome old_position old_spacing new_position new_spacing from.now into.old).stores }
 {
     pack(images::move_image(
         old_position,
@@ -157,16 +157,16 @@ pub extern "C" fn dualrail_move_image(
 
 #[unsafe(no_mangle)]
 pub extern "C" fn dualrail_take_in(text: &[u8], out: &mut [u8]) -> u64
-    ensures* r_value { λ r. ⌜ r ≡ packed (take_in_outcome text.now out.old).answer ⌝ }
-    ensures* out_after { λ _. ⌜ out.new ∷ [] ≡ (take_in_outcome text.now out.old).stores ⌝ }
+    ensures answer { result ≡ packed (take_in_outcome text.now out.old).answer }
+    ensures stores { out.new ∷ [] ≡ (take_in_outcome text.now out.old).stores }
 {
     pack_conversion(published::take_in(text, out))
 }
 
 #[unsafe(no_mangle)]
 pub extern "C" fn dualrail_send_out(text: &[u8], out: &mut [u8]) -> u64
-    ensures* r_value { λ r. ⌜ r ≡ packed (send_out_outcome text.now out.old).answer ⌝ }
-    ensures* out_after { λ _. ⌜ out.new ∷ [] ≡ (send_out_outcome text.now out.old).stores ⌝ }
+    ensures answer { result ≡ packed (send_out_outcome text.now out.old).answer }
+    ensures stores { out.new ∷ [] ≡ (send_out_outcome text.now out.old).stores }
 {
     pack_conversion(published::send_out(text, out))
 }
@@ -179,8 +179,8 @@ pub extern "C" fn dualrail_run(
     state: &mut [u8],
     trace: &mut [u16],
 ) -> u64
-    ensures* r_value { λ r. ⌜ r ≡ packed_run (run_outcome program.now start budget state.old trace.old).answer ⌝ }
-    ensures* trace_after { λ _. ⌜ state.new ∷ trace.new ∷ [] ≡ (run_outcome program.now start budget state.old trace.old).stores ⌝ }
+    ensures answer { result ≡ packed_run (run_outcome program.now start budget state.old trace.old).answer }
+    ensures stores { state.new ∷ trace.new ∷ [] ≡ (run_outcome program.now start budget state.old trace.old).stores }
 {
     pack_run(machine::run(program, start, budget, state, trace))
 }
@@ -195,14 +195,14 @@ pub extern "C" fn dualrail_run_watched(
     trace: &mut [u16],
     watches: &mut [Watch],
 ) -> u64
-    ensures* { λ r. ⌜ (r ≡ packed_run (watch_outcome program.now start budget state.old trace.old watches.old).run.answer) × (state.new ∷ trace.new ∷ [] ≡ (watch_outcome program.now start budget state.old trace.old watches.old).run.stores) × (watches.new ≡ (watch_outcome program.now start budget state.old trace.old watches.old).watches) ⌝ }
+    ensures { (result ≡ packed_run (watch_outcome program.now start budget state.old trace.old watches.old).run.answer) × (state.new ∷ trace.new ∷ [] ≡ (watch_outcome program.now start budget state.old trace.old watches.old).run.stores) × (watches.new ≡ (watch_outcome program.now start budget state.old trace.old watches.old).watches) }
 {
     let answer = watch::run_watched(program, start, budget, state, trace, watches);
     pack_run(answer)
 }
 
 fn pack_verdict(verdict: Verdict) -> u64
-    ensures* { λ r. ⌜ r ≡ packed_run (told verdict) ⌝ }
+    ensures { result ≡ packed_run (told verdict) }
 {
     match verdict {
         Verdict::Balanced { counter, steps } => (counter as u64) * 65536 + (steps as u64),
@@ -216,7 +216,7 @@ fn pack_verdict(verdict: Verdict) -> u64
 
 #[unsafe(no_mangle)]
 pub extern "C" fn dualrail_judge(program: &[u16], sets: &[u8], budget: u16) -> u64
-    ensures* { λ r. ⌜ r ≡ packed_run (verdict_report program.now sets.now budget) ⌝ }
+    ensures { result ≡ packed_run (verdict_report program.now sets.now budget) }
 {
     pack_verdict(walk::judge(program, sets, budget))
 }
@@ -225,50 +225,50 @@ pub extern "C" fn dualrail_judge(program: &[u16], sets: &[u8], budget: u16) -> u
 
 #[unsafe(no_mangle)]
 pub extern "C" fn dualrail_encode(n: u8) -> u8
-    ensures* { λ r. ⌜ r ≡ codeword n ⌝ }
+    ensures { result ≡ codeword n }
 {
     nibble::encode(n)
 }
 
 #[unsafe(no_mangle)]
 pub extern "C" fn dualrail_decode(c: u8) -> u8
-    ensures* { λ r. ⌜ r ≡ decoded c ⌝ }
+    ensures { result ≡ decoded c }
 {
     nibble::decode(c)
 }
 
 #[unsafe(no_mangle)]
 pub extern "C" fn dualrail_xor(a: u8, b: u8) -> u8
-    ensures* { λ r. ⌜ r ≡ pair_result xor_table a b ⌝ }
+    ensures { result ≡ pair_result xor_table a b }
 {
     nibble::xor(a, b)
 }
 
 #[unsafe(no_mangle)]
 pub extern "C" fn dualrail_xor_table(table: &mut [u8; PAIRS])
-    ensures* { λ _. ⌜ table.new ≡ xor_table ⌝ }
+    ensures { table.new ≡ xor_table }
 {
     *table = nibble::xor_table();
 }
 
 #[unsafe(no_mangle)]
 pub extern "C" fn dualrail_map_table(map: &[u8], table: &mut [u8; WORDS]) -> u64
-    ensures* r_value { λ r. ⌜ r ≡ packed (map_outcome map.now).answer ⌝ }
-    ensures* table_after { λ _. ⌜ table.new ∷ [] ≡ (map_outcome map.now).stores ⌝ }
+    ensures answer { result ≡ packed (map_outcome map.now).answer }
+    ensures stores { table.new ∷ [] ≡ (map_outcome map.now).stores }
 {
     pack(nibble::map_table_into(map, table))
 }
 
 #[unsafe(no_mangle)]
 pub extern "C" fn dualrail_look_up(table: &[u8; WORDS], c: u8) -> u8
-    ensures* { λ r. ⌜ r ≡ result table.now c ⌝ }
+    ensures { result ≡ result_of table.now c }
 {
     nibble::look_up(table, c)
 }
 
 #[unsafe(no_mangle)]
 pub extern "C" fn dualrail_look_up_pair(table: &[u8; PAIRS], a: u8, b: u8) -> u8
-    ensures* { λ r. ⌜ r ≡ pair_result table.now a b ⌝ }
+    ensures { result ≡ pair_result table.now a b }
 {
     nibble::look_up_pair(table, a, b)
 }
@@ -282,8 +282,8 @@ pub extern "C" fn dualrail_choose(
     weights: &[i16],
     set: &mut [u8; SET],
 ) -> u64
-    ensures* r_value { λ r. ⌜ r ≡ packed (choose_outcome bits ones size weights.now).answer ⌝ }
-    ensures* set_after { λ _. ⌜ set.new ∷ [] ≡ (choose_outcome bits ones size weights.now).stores ⌝ }
+    ensures answer { result ≡ packed (choose_outcome bits ones size weights.now).answer }
+    ensures stores { set.new ∷ [] ≡ (choose_outcome bits ones size weights.now).stores }
 {
     let chosen = codewords::choose(bits, ones, size, weights);
     let answer = chosen.answer;

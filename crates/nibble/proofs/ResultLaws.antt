@@ -14,7 +14,7 @@ use lib.ListN.{length, get_or, replicate, get_or-replicate}
 use Rattle.model.specs.Answers.{done, counted, refused}
 use Rattle.model.proofs.OutcomeLaws.{never_done}
 use Rattle.model.proofs.TestLaws.{below}
-use Rattle.nibble.specs.Nibbles.{codeword, decoded, in_code, xor_entry, xor_table, map_entry, map_table, result, pair_result, first_above, map_check, handed_back, map_outcome}
+use Rattle.nibble.specs.Nibbles.{codeword, decoded, in_code, xor_entry, xor_table, map_entry, map_table, result_of, pair_result, first_above, map_check, handed_back, map_outcome}
 use Rattle.nibble.specs.Claims.{Result, XorEntries, MapEntries, Maps, XorResults, MapResults, SameWeights}
 use Rattle.nibble.proofs.CodeLaws.{coding, nibble_inside, decoding}
 use Rattle.nibble.proofs.MapLaws.{none_above, not_sixteen, value_above, map-right}
@@ -98,7 +98,7 @@ pub maps : (m : List ℕ) → Maps m
 maps m =
     record {
       right = λ e g. sym (map-right m (map_table m) (first_above m) e refl (omega (arith, no_first m (λ i l. g i (omega arith)))) refl);
-      other_length_lem = λ e. sym (not_sixteen m e);
+      other_length = λ e. sym (not_sixteen m e);
       value_above_lem = λ e i h a g. sym (value_above m i e (sym (first_above_lem m i (omega arith) a g)) h);
     }
 
@@ -113,12 +113,12 @@ accepted m vs e = go (eqb (length m) 16) (ltb (first_above m) 16) refl refl e
     go false u p q e = absurd (never_done e)
 
 -- looked up at any operand
-map_looked_up : (m : List ℕ) (x : ℕ) → result (map_table m) x ≡ map_entry m x
+map_looked_up : (m : List ℕ) (x : ℕ) → result_of (map_table m) x ≡ map_entry m x
 unfolding map_entry
 map_looked_up m x =
     below x 64 (λ h. sym (within_63 (map_table m) x h) ∙ entry_at (map_entry m) 64 x h) (λ h. sym (past_63 (map_table m) x h) ∙ rw ((decoding x).above63 h))
 
-nothing_looked_up : (x : ℕ) → result (replicate 64 0) x ≡ 0
+nothing_looked_up : (x : ℕ) → result_of (replicate 64 0) x ≡ 0
 nothing_looked_up x = below x 64 (λ h. sym (within_63 (replicate 64 0) x h) ∙ get_or-replicate 64 x 0 0 h) (λ h. sym (past_63 (replicate 64 0) x h))
 
 pub map_results : MapResults

@@ -9,7 +9,7 @@ use native.Mathlib.Omega.{arith}
 use borrow.Author.Tests.{lt-ltb, le-ltb}
 use lib.ListN.{length, get_or}
 use lib.Seq.{ext_get_or}
-use Rattle.nibble.specs.Nibbles.{entries, xor_entry, xor_table, result, pair_result}
+use Rattle.nibble.specs.Nibbles.{entries, xor_entry, xor_table, result_of, pair_result}
 
 -- ---- entries by a rule
 
@@ -41,10 +41,10 @@ xor_at x y h g =
 
 -- ---- what is looked up, by whether the operands are words of six bits
 
-pub past_63 : (t : List ℕ) (x : ℕ) → 63 < x → 0 ≡ result t x
+pub past_63 : (t : List ℕ) (x : ℕ) → 63 < x → 0 ≡ result_of t x
 past_63 t x h = rw (le-ltb x 64 h)
 
-pub within_63 : (t : List ℕ) (x : ℕ) → x < 64 → get_or t x 0 ≡ result t x
+pub within_63 : (t : List ℕ) (x : ℕ) → x < 64 → get_or t x 0 ≡ result_of t x
 within_63 t x h = rw (lt-ltb x 64 h)
 
 pub first_past_63 : (t : List ℕ) (x y : ℕ) → 63 < x → 0 ≡ pair_result t x y

@@ -4,7 +4,7 @@ use Rattle.std.specs.Prelude.{◌≡◌, Bool, true, false, ◌&&◌, List, [], 
 use Rattle.std.specs.Int.Bits.{bit_xor}
 use Rattle.std.specs.Int.Count.{ones}
 use Rattle.model.specs.Answers.{Report, done, counted, refused, outcome}
-use Rattle.nibble.specs.Nibbles.{codeword, decoded, in_code, xor_table, map_table, result, pair_result, map_outcome}
+use Rattle.nibble.specs.Nibbles.{codeword, decoded, in_code, xor_table, map_table, result_of, pair_result, map_outcome}
 
 -- ---- the code: six bits with three ones; coding and decoding are inverse on 0 to 15
 
@@ -67,7 +67,7 @@ pub record MapResult (m : List ℕ) (answer : Report) (x r : ℕ) : Type 0 where
   pub turned_down : (k i : ℕ) → answer ≡ refused k i → r ≡ 0
 
 abbrev pub MapResults : Type 0
-MapResults = (m t : List ℕ) (answer : Report) (x : ℕ) → outcome answer (t ∷ []) ≡ map_outcome m → MapResult m answer x (result t x)
+MapResults = (m t : List ℕ) (answer : Report) (x : ℕ) → outcome answer (t ∷ []) ≡ map_outcome m → MapResult m answer x (result_of t x)
 
 -- ---- what the code is for: whichever two codewords are combined, the numbers of the look-up have the same Hamming weights
 

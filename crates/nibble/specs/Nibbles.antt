@@ -55,8 +55,8 @@ map_table m = entries (map_entry m) 0 64
 
 -- ---- a table's result: the entry of an operand, 0 for any above 63
 
-abbrev pub result : List ℕ → ℕ → ℕ
-result t x = cond (ltb x 64) (get_or t x 0) 0
+abbrev pub result_of : List ℕ → ℕ → ℕ
+result_of t x = cond (ltb x 64) (get_or t x 0) 0
 
 -- of two operands, 0 where either is above 63
 abbrev pub pair_result : List ℕ → ℕ → ℕ → ℕ

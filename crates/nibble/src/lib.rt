@@ -5,7 +5,7 @@
 
 ghost use Rattle.std.specs.Prelude.{◌≡◌, [], ◌∷◌, ◌≤◌, length, replicate};
 ghost use Rattle.model.specs.Answers.{report, outcome};
-ghost use Rattle.nibble.specs.Nibbles.{codeword, decoded, xor_table, map_table, result, pair_result, first_above, map_outcome};
+ghost use Rattle.nibble.specs.Nibbles.{codeword, decoded, xor_table, map_table, result_of, pair_result, first_above, map_outcome};
 
 use model::Answer;
 use table::XOR_TABLE;
@@ -25,7 +25,7 @@ pub const PAIRS: usize = 4096;
 // Coding: the codeword of a nibble, 0 above 15. It is a match, here and in decoding, because that is compiled to a table which is there once, and
 // an array of constants is made anew at each call.
 pub fn encode(n: u8) -> u8
-    ensures* { λ r. ⌜ r ≡ codeword n ⌝ }
+    ensures { result ≡ codeword n }
 {
     match n {
         0 => 7,
@@ -50,7 +50,7 @@ pub fn encode(n: u8) -> u8
 
 // Decoding: the nibble of a codeword, 255 outside the code.
 pub fn decode(c: u8) -> u8
-    ensures* { λ r. ⌜ r ≡ decoded c ⌝ }
+    ensures { result ≡ decoded c }
 {
     match c {
         7 => 0,
@@ -77,7 +77,7 @@ pub fn decode(c: u8) -> u8
 
 // The result of a map's table for an operand, 0 above 63.
 pub fn look_up(table: &[u8; WORDS], c: u8) -> u8
-    ensures* { λ r. ⌜ r ≡ result table.now c ⌝ }
+    ensures { result ≡ result_of table.now c }
 {
     if 63 < c {
         return 0;
@@ -87,7 +87,7 @@ pub fn look_up(table: &[u8; WORDS], c: u8) -> u8
 
 // The result of a table of 4,096 entries for two operands, 0 where either is above 63.
 pub fn look_up_pair(table: &[u8; PAIRS], a: u8, b: u8) -> u8
-    ensures* { λ r. ⌜ r ≡ pair_result table.now a b ⌝ }
+    ensures { result ≡ pair_result table.now a b }
 {
     if 63 < a {
         return 0;
@@ -102,14 +102,14 @@ pub fn look_up_pair(table: &[u8; PAIRS], a: u8, b: u8) -> u8
 
 // The whole table. Keep it where you look up often: the constant is made anew at each use.
 pub fn xor_table() -> [u8; PAIRS]
-    ensures* { λ r. ⌜ r ≡ xor_table ⌝ }
+    ensures { result ≡ xor_table }
 {
     XOR_TABLE
 }
 
 // The codeword of the exclusive or of two nibbles, from their codewords; 0 where either is outside the code.
 pub fn xor(a: u8, b: u8) -> u8
-    ensures* { λ r. ⌜ r ≡ pair_result xor_table a b ⌝ }
+    ensures { result ≡ pair_result xor_table a b }
 {
     let table = xor_table();
     look_up_pair(&table, a, b)
@@ -127,9 +127,9 @@ pub struct MapTable {
 // C(m(a)) at C(a), over zeros, up to the first value above 15; its index, 16 where there is none.
 fn fill(map: &[u8], table: &mut [u8; WORDS]) -> usize
     requires map_len { length map.now ≡ 16 }
-    requires table_value { table.old ≡ replicate 64 0 }
-    ensures* r_value { λ r. ⌜ r ≡ first_above map.now ⌝ }
-    ensures* fact { λ r. ⌜ (16 ≤ r → table.new ≡ map_table map.now) ⌝ }
+    requires zeros { table.old ≡ replicate 64 0 }
+    ensures index { result ≡ first_above map.now }
+    ensures table { 16 ≤ result → table.new ≡ map_table map.now }
 {
     let mut a: usize = 0;
     while a < NIBBLES {
@@ -146,7 +146,7 @@ fn fill(map: &[u8], table: &mut [u8; WORDS]) -> usize
 
 // The table of a map of nibbles, given by its 16 values, written into a lent one; all 0 after a refusal.
 pub fn map_table_into(map: &[u8], table: &mut [u8; WORDS]) -> Answer
-    ensures* { λ r. ⌜ outcome (report r) (table.new ∷ []) ≡ map_outcome map.now ⌝ }
+    ensures { outcome (report result) (table.new ∷ []) ≡ map_outcome map.now }
 {
     *table = [0; WORDS];
     if map.len() != NIBBLES {
@@ -168,7 +168,7 @@ pub fn map_table_into(map: &[u8], table: &mut [u8; WORDS]) -> Answer
 
 // The same by value.
 pub fn map_table(map: &[u8]) -> MapTable
-    ensures* { λ r. ⌜ outcome (report r.answer) (r.table ∷ []) ≡ map_outcome map.now ⌝ }
+    ensures { outcome (report result.answer) (result.table ∷ []) ≡ map_outcome map.now }
 {
     let mut table = [0u8; WORDS];
     let answer = map_table_into(map, &mut table);
