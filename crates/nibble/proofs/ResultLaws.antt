@@ -99,7 +99,7 @@ maps m =
     record {
       right = λ e g. sym (map-right m (map_table m) (first_above m) e refl (omega (arith, no_first m (λ i l. g i (omega arith)))) refl);
       other_length = λ e. sym (not_sixteen m e);
-      value_above_lem = λ e i h a g. sym (value_above m i e (sym (first_above_lem m i (omega arith) a g)) h);
+      value_above = λ e i h a g. sym (value_above m i e (sym (first_above_lem m i (omega arith) a g)) h);
     }
 
 -- a map that is not refused has no value above 15
