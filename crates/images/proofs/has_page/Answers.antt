@@ -1,0 +1,18 @@
+-- `images::has_page` meets its contract. The loop's invariant: `good` is the test of the places before i. Assumes nothing.
+use Prim.Native.Nat.{◌≤◌, ◌-◌}
+use mathlib.Core.Path.{◌≡◌, refl}
+use native.Mathlib.Omega.{arith}
+use Rattle.model.specs.Limits.{state_size}
+use Rattle.images.specs.Ranges.{on_page, between}
+use Rattle.images.proofs.Ranges.{good_next, good_none, good_all}
+use borrow.Author.Rules.{rules}
+use Rattle.images.proofs.has_page.Goals as goal
+
+pub loop-i-init : goal.loop-i-init
+loop-i-init c = (omega arith, omega arith, good_none _ _ _)
+
+pub loop-i-preserved : goal.loop-i-preserved
+loop-i-preserved c = (omega arith, omega arith, good_next (on_page c.args.page.now) _ _ _ _ _ c.loop-i.invariant.0 c.loop-i.invariant.2 refl)
+
+pub returns : goal.returns
+returns c = good_all _ _ _ _ _ _ c.loop-i.invariant.1 c.loop-i-test.false c.loop-i.invariant.2

@@ -1,0 +1,45 @@
+-- `machine::write_row` meets its contract. The loop's invariant: the first i numbers of the row stand in the store, the rest of
+-- it is as it was. The measure is what is left of the row. Assumes nothing.
+use Rattle.std.proofs.Common.{◌≡◌, ℕ, ◌+◌, ◌-◌, ◌*◌, ◌<◌, ◌≤◌, List, ◌++◌, length, get_or, take, drop, set, ap, ◌∙◌, add-one, arith, take_all, rules}
+use lib.Seq.{paste, paste-zero, paste-suc, length-paste}
+use Rattle.model.specs.Limits.{row_width}
+use Rattle.machine.proofs.write_row.Goals as goal
+
+module _ (t t' : List ℕ) (k : ℕ) (r : List ℕ) (i : ℕ) (e : t' ≡ paste t k r i) (l : length r ≡ row_width) where
+  same_size : k + row_width ≤ length t → i ≤ row_width → length t' ≡ length t
+  same_size h j = ap length e ∙ length-paste t k r i (omega arith) (omega arith)
+
+  one_number : k + row_width ≤ length t → i < row_width → set t' (k + i) (get_or r i 0) ≡ paste t k r (i + 1)
+  one_number h j = rw (e, add-one i) (paste-suc t k r i 0 (omega arith) (omega arith))
+
+  whole_row : i ≤ row_width → row_width ≤ i → t' ≡ take k t ++ r ++ drop (k + row_width) t
+  whole_row h j =
+      let z : i ≡ row_width = omega arith in
+      e ∙ rw (z, take_all row_width r (omega arith))
+
+pub loop-i-init : goal.loop-i-init
+loop-i-init c = (search rules, search rules, paste-zero c.args.trace.now (row_width * c.args.n) c.args.t3)
+
+pub bounds-trace-k : goal.bounds-trace-k
+bounds-trace-k c =
+    let x = c.args in
+    let l = c.loop-i in
+    omega (arith, same_size x.trace.now l.trace (row_width * x.n) x.t3 l.i l.invariant.2 l.invariant.1 c.requires l.invariant.0)
+
+pub loop-i-preserved : goal.loop-i-preserved
+loop-i-preserved c =
+    let x = c.args in
+    let l = c.loop-i in
+    (search rules, l.invariant.1, one_number x.trace.now l.trace (row_width * x.n) x.t3 l.i l.invariant.2 l.invariant.1 c.requires c.loop-i-test.true)
+
+pub shape_of-trace : goal.shape_of-trace
+shape_of-trace c =
+    let x = c.args in
+    let l = c.loop-i in
+    same_size x.trace.now l.trace (row_width * x.n) x.t3 l.i l.invariant.2 l.invariant.1 c.requires l.invariant.0
+
+pub returns : goal.returns
+returns c =
+    let x = c.args in
+    let l = c.loop-i in
+    whole_row x.trace.now l.trace (row_width * x.n) x.t3 l.i l.invariant.2 l.invariant.1 l.invariant.0 c.loop-i-test.false

@@ -1,0 +1,17 @@
+-- `text::cut::find` meets its contract: the bytes passed and those before the first c in the rest are as many as before the first
+-- c. Assumes nothing.
+use borrow.Author.Rules.{rules}
+use Prim.Native.Nat.{◌≤◌, ◌+◌, ◌-◌}
+use mathlib.Core.Path.{◌≡◌}
+use native.Mathlib.Omega.{arith}
+use native.Mathlib.Nat.{zero-add}
+use lib.ListN.{length, drop, drop_of_length-le}
+use Rattle.model.specs.Text.{up_to}
+use Rattle.text.proofs.PartLaws.{up_to_found, up_to_other}
+use Rattle.text.proofs.cut.find.Given as goal
+
+abbrev pub invariant-loop-i : goal.invariant-loop-i
+invariant-loop-i l = (l.i ≤ length l.s) × (l.i + length (up_to l.c (drop l.i l.s)) ≡ length (up_to l.c l.s))
+
+abbrev pub decreases-loop-i : goal.decreases-loop-i
+decreases-loop-i l = length l.s - l.i
