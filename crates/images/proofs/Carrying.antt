@@ -22,31 +22,23 @@ both_pass true true a r e = refl
 both_pass true false a r e = absurd (holds e)
 both_pass false y a r e = absurd (holds e)
 
-unsized : (b : Bool) → not b ≡ true → b ≡ false
-unsized true e = absurd (holds e)
-unsized false e = refl
-
-as_sized : (b : Bool) → not b ≡ false → b ≡ true
-as_sized true e = refl
-as_sized false e = absurd (holds (sym e))
-
 -- the test of both lengths
 module _ (from into : State) (sized : Bool) (w : sized ≡ (eqb (length from) state_size && eqb (length into) state_size)) where
-  pub both_long : not sized ≡ false → (length from ≡ state_size) × (length into ≡ state_size)
+  pub both_long : sized ≡ true → (length from ≡ state_size) × (length into ≡ state_size)
   both_long h =
-      let q = and_both (eqb (length from) state_size) (eqb (length into) state_size) (holds (sym w ∙ as_sized sized h)) in
+      let q = and_both (eqb (length from) state_size) (eqb (length into) state_size) (holds (sym w ∙ h)) in
       (eqb→eq (length from) state_size q.0, eqb→eq (length into) state_size q.1)
 
   module _ (right : ℕ → ℕ → Bool) (over : State → State) where
-    pub other_size : not sized ≡ true → outcome (refused 18 0) (into ∷ []) ≡ carried right over from into
+    pub other_size : sized ≡ false → outcome (refused 18 0) (into ∷ []) ≡ carried right over from into
     unfolding carried
-    other_size h = sym (either_fails (eqb (length from) state_size) (eqb (length into) state_size) _ _ (sym w ∙ unsized sized h))
+    other_size h = sym (either_fails (eqb (length from) state_size) (eqb (length into) state_size) _ _ (sym w ∙ h))
 
-    module _ (h : not sized ≡ false) (b : Bool) (q : b ≡ every right 0 from) where
+    module _ (h : sized ≡ true) (b : Bool) (q : b ≡ every right 0 from) where
       pub turned_down : b ≡ false → outcome (refused 19 0) (into ∷ []) ≡ carried right over from into
       unfolding carried
-      turned_down z = rw (both_pass (eqb (length from) state_size) (eqb (length into) state_size) _ _ (sym w ∙ as_sized sized h), ← q, z)
+      turned_down z = rw (both_pass (eqb (length from) state_size) (eqb (length into) state_size) _ _ (sym w ∙ h), ← q, z)
 
       pub goes_over : (l : State) → b ≡ true → l ≡ over from → outcome (counted state_size) (l ∷ []) ≡ carried right over from into
       unfolding carried
-      goes_over l z e = rw (both_pass (eqb (length from) state_size) (eqb (length into) state_size) _ _ (sym w ∙ as_sized sized h), ← q, z, e)
+      goes_over l z e = rw (both_pass (eqb (length from) state_size) (eqb (length into) state_size) _ _ (sym w ∙ h), ← q, z, e)

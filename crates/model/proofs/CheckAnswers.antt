@@ -4,13 +4,9 @@ use Prim.Native.Nat.{ℕ, zero, suc, ◌+◌}
 use mathlib.Core.Path.{◌≡◌, refl, sym, ap, ◌∙◌}
 use mathlib.Core.Bool.{Bool, true, false, cond}
 use mathlib.Core.List.{List, [], ◌∷◌}
-use mathlib.Core.Logic.{inl, inr}
 use native.Mathlib.Omega.{arith}
-use denote.Enum.Declared.{tag_of}
-use types.Run.{OneOf}
 use lib.Dec.{eqb, leb, ltb}
 use lib.ListN.{length}
-use Rattle.model.specs.contracts.Answer.{the_type}
 use Rattle.model.specs.declared.Answer.{Answer}
 use Rattle.model.specs.declared.Answer.TheVariants.{Count, Halted, Spent, Refused}
 use Rattle.model.specs.declared.Layout.{Layout}
@@ -112,7 +108,7 @@ accepted_source p vs e = go (mark_answers p)
 
 -- not the first of its variants
 abbrev pub NoCount : Answer → Type 0
-NoCount a = OneOf (1 ∷ 2 ∷ 3 ∷ []) (tag_of the_type a)
+NoCount a = (n : ℕ) → a ≡ Count n → ⊥
 
 pub record Refusal (r : Report) : Type 0 where
   pub number : ℕ
@@ -123,9 +119,7 @@ pub count-told : {r : Report} {a : Answer} {n : ℕ} → a ≡ Count n → repor
 count-told q e = sym e ∙ ap report q
 
 pub never_counts : (n : ℕ) → NoCount (Count n) → ⊥
-never_counts n (inl e) = omega arith
-never_counts n (inr (inl e)) = omega arith
-never_counts n (inr (inr e)) = omega arith
+never_counts n h = h n refl
 
 pub no_ending : {r : Report} (k i s : ℕ) → CountOrRefusal r → done (k ∷ i ∷ s ∷ []) ≡ r → ⊥
 no_ending k i s (counts n e) q = let z : done (k ∷ i ∷ s ∷ []) ≡ done (n ∷ []) = q ∙ e in let w : ◌≡◌ {A = ℕ} 0 1 = cc in omega arith

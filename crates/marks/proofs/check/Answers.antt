@@ -5,7 +5,7 @@ use borrow.Author.Rules.{rules}
 use Rattle.marks.proofs.check.Goals as goal
 
 pub returns-in_default : goal.returns-in_default
-returns-in_default c = check_stops c.args.program.now c.check_program-checked.result c.in_default.in_default-own.keys2 c.check_program-checked.ensures
+returns-in_default c = check_stops c.args.program.now c.check_program-checked.result c.in_default.not-Count c.check_program-checked.ensures
 
 pub returns : goal.returns
 returns c = check_goes_on c.args.program.now c.check_program-checked.result c.check_marks.result _ c.check_program-checked.ensures c.in-Count.is c.check_marks.ensures
