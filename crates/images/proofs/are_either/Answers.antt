@@ -1,10 +1,8 @@
 -- `images::are_either` meets its contract. The loop's invariant: `good` is the test of the places before i. Assumes nothing.
-use Prim.Native.Nat.{◌≤◌, ◌-◌}
-use mathlib.Core.Path.{◌≡◌, refl}
+use mathlib.Core.Path.{refl}
 use native.Mathlib.Omega.{arith}
-use Rattle.images.specs.Ranges.{either, between}
+use Rattle.images.specs.Ranges.{either}
 use Rattle.images.proofs.Ranges.{good_next, good_none, good_all}
-use borrow.Author.Rules.{rules}
 use Rattle.images.proofs.are_either.Goals as goal
 
 pub loop-i-init : goal.loop-i-init

@@ -1,10 +1,7 @@
 -- `images::are_either` meets its contract. The loop's invariant: `good` is the test of the places before i. Assumes nothing.
 use Prim.Native.Nat.{◌≤◌, ◌-◌}
-use mathlib.Core.Path.{◌≡◌, refl}
-use native.Mathlib.Omega.{arith}
+use mathlib.Core.Path.{◌≡◌}
 use Rattle.images.specs.Ranges.{either, between}
-use Rattle.images.proofs.Ranges.{good_next, good_none, good_all}
-use borrow.Author.Rules.{rules}
 use Rattle.images.proofs.are_either.Given as goal
 
 abbrev pub invariant-loop-i : goal.invariant-loop-i

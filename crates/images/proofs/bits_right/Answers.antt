@@ -1,6 +1,5 @@
 -- `images::bits_right` meets its contract. The ranges of each kind, one after the other. Assumes nothing.
 use Rattle.images.proofs.KindRanges.{bits_by_range}
-use borrow.Author.Rules.{rules}
 use Rattle.images.proofs.bits_right.Goals as goal
 
 pub returns : goal.returns

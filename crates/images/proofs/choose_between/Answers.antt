@@ -1,11 +1,9 @@
 -- `images::choose_between` meets its contract. The loop's invariant: the places before i are filled. Assumes nothing.
-use Prim.Native.Nat.{◌≤◌, ◌-◌}
-use mathlib.Core.Path.{◌≡◌, refl}
-use lib.ListN.{length, length-set}
+use mathlib.Core.Path.{refl}
+use lib.ListN.{length-set}
 use native.Mathlib.Omega.{arith}
-use Rattle.images.specs.Ranges.{chosen, filled}
+use Rattle.images.specs.Ranges.{chosen}
 use Rattle.images.proofs.Ranges.{filled_next, filled_none, filled_all}
-use borrow.Author.Rules.{rules}
 use Rattle.images.proofs.choose_between.Goals as goal
 
 pub loop-i-init : goal.loop-i-init

@@ -1,11 +1,8 @@
 -- `images::copy_between` meets its contract. The loop's invariant: the places before i are filled. Assumes nothing.
 use Prim.Native.Nat.{◌≤◌, ◌-◌}
-use mathlib.Core.Path.{◌≡◌, refl}
-use lib.ListN.{length, length-set}
-use native.Mathlib.Omega.{arith}
+use mathlib.Core.Path.{◌≡◌}
+use lib.ListN.{length}
 use Rattle.images.specs.Ranges.{kept, filled}
-use Rattle.images.proofs.Ranges.{filled_next, filled_none, filled_all}
-use borrow.Author.Rules.{rules}
 use Rattle.images.proofs.copy_between.Given as goal
 
 abbrev pub invariant-loop-i : goal.invariant-loop-i

@@ -1,11 +1,8 @@
 -- `images::has_page` meets its contract. The loop's invariant: `good` is the test of the places before i. Assumes nothing.
-use Prim.Native.Nat.{◌≤◌, ◌-◌}
-use mathlib.Core.Path.{◌≡◌, refl}
+use mathlib.Core.Path.{refl}
 use native.Mathlib.Omega.{arith}
-use Rattle.model.specs.Limits.{state_size}
-use Rattle.images.specs.Ranges.{on_page, between}
+use Rattle.images.specs.Ranges.{on_page}
 use Rattle.images.proofs.Ranges.{good_next, good_none, good_all}
-use borrow.Author.Rules.{rules}
 use Rattle.images.proofs.has_page.Goals as goal
 
 pub loop-i-init : goal.loop-i-init

@@ -3,7 +3,6 @@ use mathlib.Core.Path.{◌∙◌}
 use Rattle.model.specs.Images.{back, image_right}
 use Rattle.images.proofs.Placed.{back-placed}
 use Rattle.images.proofs.Carrying.{both_long, other_size, turned_down, goes_over}
-use borrow.Author.Rules.{rules}
 use Rattle.images.proofs.make_bits.Goals as goal
 
 pub returns-then-not-are_states : goal.returns-then-not-are_states

@@ -5,7 +5,6 @@ use Rattle.model.specs.Images.{image, bit_right}
 use Rattle.images.specs.Pages.{paged}
 use Rattle.images.proofs.Placed.{image-placed}
 use Rattle.images.proofs.Carrying.{both_long, other_size, turned_down, goes_over}
-use borrow.Author.Rules.{rules}
 use Rattle.images.proofs.make_image.Goals as goal
 
 pub returns-then-not-are_states : goal.returns-then-not-are_states

@@ -6,7 +6,6 @@ use Rattle.images.specs.Pages.{paged}
 use Rattle.images.specs.Moving.{moved}
 use Rattle.images.proofs.Placed.{moved-placed}
 use Rattle.images.proofs.Carrying.{both_long, other_size, turned_down, goes_over}
-use borrow.Author.Rules.{rules}
 use Rattle.images.proofs.make_moved.Goals as goal
 
 pub returns-then-not-are_states : goal.returns-then-not-are_states

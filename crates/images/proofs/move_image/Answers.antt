@@ -4,7 +4,6 @@ use mathlib.Core.List.{[], ◌∷◌}
 use Rattle.model.specs.Layouts.{layout_of, in_layout}
 use Rattle.images.specs.Moving.{moved_in}
 use Rattle.model.proofs.OutcomeLaws.{named_known, inside, in_layout_lem, outside}
-use borrow.Author.Rules.{rules}
 use Rattle.images.proofs.move_image.Goals as goal
 
 pub layout_of-old-requires : goal.layout_of-old-requires

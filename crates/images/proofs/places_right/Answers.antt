@@ -3,7 +3,6 @@ use mathlib.Core.Path.{ap, ◌∙◌}
 use lib.ListN.{length}
 use Rattle.images.proofs.Tables.{bytes_length}
 use Rattle.images.proofs.KindRanges.{places_by_range}
-use borrow.Author.Rules.{rules}
 use Rattle.images.proofs.places_right.Goals as goal
 
 pub has_page-same-requires : goal.has_page-same-requires

@@ -4,7 +4,6 @@ use lib.ListN.{length-set}
 use native.Mathlib.Omega.{arith}
 use Rattle.images.specs.Pages.{entered}
 use Rattle.images.proofs.Tables.{scaled_small, one_small, orr_first}
-use borrow.Author.Rules.{rules}
 use Rattle.images.proofs.put_entry.Goals as goal
 
 pub returns-then-and-eq0 : goal.returns-then-and-eq0

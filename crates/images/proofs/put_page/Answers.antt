@@ -2,11 +2,10 @@
 use native.Mathlib.Omega.{arith}
 use lib.ListN.{length-set}
 use Rattle.images.proofs.Tables.{entries-small, paged-tables}
-use borrow.Author.Rules.{rules}
 use Rattle.images.proofs.put_page.Goals as goal
 
 pub put_tables-requires : goal.put_tables-requires
-put_tables-requires c =     (c.requires.0, entries-small 0 (omega arith) _ _ c.and_table-and.ensures, entries-small 1 (omega arith) _ _ c.orr_table-orr.ensures, entries-small 2 (omega arith) _ _ c.xor_table-xor.ensures, c.requires.1)
+put_tables-requires c = (c.requires.0, entries-small 0 (omega arith) _ _ c.and_table-and.ensures, entries-small 1 (omega arith) _ _ c.orr_table-orr.ensures, entries-small 2 (omega arith) _ _ c.xor_table-xor.ensures, c.requires.1)
 
 pub bounds-store-start-2 : goal.bounds-store-start-2
 bounds-store-start-2 c = simp length-set (omega arith)

@@ -1,6 +1,5 @@
 -- `images::put_places` meets its contract. The ranges of each kind, one after the other. Assumes nothing.
 use Rattle.images.proofs.KindRanges.{placed_by_range}
-use borrow.Author.Rules.{rules}
 use Rattle.images.proofs.put_places.Goals as goal
 
 pub returns : goal.returns

@@ -1,11 +1,8 @@
 -- `images::put_tables` meets its contract. The loop's invariant: the first k entries of each table are copied. Assumes nothing.
 use Prim.Native.Nat.{◌≤◌, ◌-◌}
-use mathlib.Core.Path.{◌≡◌, refl, ap, ◌∙◌}
+use mathlib.Core.Path.{◌≡◌}
 use lib.ListN.{length}
-use native.Mathlib.Omega.{arith}
 use Rattle.images.specs.Pages.{copied}
-use Rattle.images.proofs.Tables.{place_fits, entered-length, copied_next, copied_all}
-use borrow.Author.Rules.{rules}
 use Rattle.images.proofs.put_tables.Given as goal
 
 abbrev pub invariant-loop-k : goal.invariant-loop-k

@@ -3,14 +3,13 @@ use mathlib.Core.Path.{sym, ◌∙◌}
 use mathlib.Core.List.{[], ◌∷◌}
 use Rattle.model.specs.Images.{image_in}
 use Rattle.model.proofs.OutcomeLaws.{named_known, in_layout_lem, outside}
-use borrow.Author.Rules.{rules}
 use Rattle.images.proofs.to_image.Goals as goal
 
 pub layout_of-requires : goal.layout_of-requires
 layout_of-requires c = sym c.is_six.ensures ∙ c.if-is_six.true
 
 pub make_image-requires : goal.make_image-requires
-make_image-requires c =     named_known c.args.position c.args.spacing _ (sym c.is_six.ensures ∙ c.if-is_six.true) c.layout_of.ensures
+make_image-requires c = named_known c.args.position c.args.spacing _ (sym c.is_six.ensures ∙ c.if-is_six.true) c.layout_of.ensures
 
 pub returns-then-is_six : goal.returns-then-is_six
 returns-then-is_six c =

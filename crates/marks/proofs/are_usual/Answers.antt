@@ -1,5 +1,4 @@
 -- `marks::are_usual` meets its contract. The three, one after the other. Assumes nothing.
-use borrow.Author.Rules.{rules}
 use Rattle.marks.proofs.are_usual.Goals as goal
 
 pub returns-then-is_usual-2 : goal.returns-then-is_usual-2

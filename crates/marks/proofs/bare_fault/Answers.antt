@@ -2,7 +2,6 @@
 use mathlib.Core.Path.{◌≡◌, refl}
 use mathlib.Core.Bool.{cond}
 use Prim.Native.Nat.{ℕ}
-use borrow.Author.Rules.{rules}
 use Rattle.model.specs.Stored.{operand_of, line_of}
 use Rattle.model.specs.Marks.{holds10, holds11, holds12, holds14, holds15, holds16, mark_fault}
 use Rattle.marks.proofs.bare_fault.Goals as goal

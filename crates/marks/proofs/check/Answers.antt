@@ -1,7 +1,6 @@
 -- `marks::check` meets its contract. A program that the check of its numbers refuses is refused so; for any other the
 -- conditions of the marks decide. Assumes nothing.
 use Rattle.marks.proofs.MarkWalk.{check_stops, check_goes_on}
-use borrow.Author.Rules.{rules}
 use Rattle.marks.proofs.check.Goals as goal
 
 pub returns-in_default : goal.returns-in_default

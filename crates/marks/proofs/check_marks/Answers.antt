@@ -1,12 +1,7 @@
 -- `marks::check_marks` meets its contract. The loop's invariant: the check of the lines that are left answers as the
 -- whole does. Assumes nothing.
-use Prim.Native.Nat.{◌≤◌, ◌-◌}
-use mathlib.Core.Path.{◌≡◌, ◌∙◌}
-use lib.ListN.{drop}
+use mathlib.Core.Path.{◌∙◌}
 use native.Mathlib.Omega.{arith}
-use borrow.Author.Rules.{rules}
-use Rattle.model.specs.Stored.{lines}
-use Rattle.model.specs.Marks.{first_bad, marks_of}
 use Rattle.marks.proofs.MarkWalk.{passes, fails, ends, too_long, begins}
 use Rattle.marks.proofs.check_marks.Goals as goal
 

@@ -1,6 +1,5 @@
 -- `marks::holds10` meets its contract. The tests that it joins are those of the definition. Assumes nothing.
 use Rattle.model.specs.Marks.{holds10}
-use borrow.Author.Rules.{rules}
 use Rattle.marks.proofs.holds10.Goals as goal
 
 pub returns-then-is_reserved : goal.returns-then-is_reserved

@@ -1,6 +1,5 @@
 -- `marks::holds11` meets its contract. The tests that it joins are those of the definition. Assumes nothing.
 use Rattle.model.specs.Marks.{holds11}
-use borrow.Author.Rules.{rules}
 use Rattle.marks.proofs.holds11.Goals as goal
 
 pub returns-then-is_marked : goal.returns-then-is_marked

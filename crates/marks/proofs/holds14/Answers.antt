@@ -2,7 +2,6 @@
 use mathlib.Core.Path.{ap}
 use mathlib.Core.Bool.{not}
 use Rattle.model.specs.Marks.{holds14}
-use borrow.Author.Rules.{rules}
 use Rattle.marks.proofs.holds14.Goals as goal
 
 pub returns-then-is_marked : goal.returns-then-is_marked

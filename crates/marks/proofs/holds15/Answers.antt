@@ -1,6 +1,5 @@
 -- `marks::holds15` meets its contract. The tests that it joins are those of the definition. Assumes nothing.
 use Rattle.model.specs.Marks.{holds15}
-use borrow.Author.Rules.{rules}
 use Rattle.marks.proofs.holds15.Goals as goal
 
 pub returns-then-is_no_bit : goal.returns-then-is_no_bit

@@ -1,5 +1,4 @@
 -- `marks::is_above` meets its contract, by the law on a target's number. Assumes nothing.
-use borrow.Author.Rules.{rules}
 use Rattle.marks.proofs.NumberTests.{above}
 use Rattle.marks.proofs.is_above.Goals as goal
 

@@ -1,6 +1,5 @@
 -- `marks::is_usual` meets its contract. Range by range. Assumes nothing.
 use Rattle.marks.proofs.UsualOperands.{low-usual, cell_usual, indirect-usual, table_usual}
-use borrow.Author.Rules.{rules}
 use Rattle.marks.proofs.is_usual.Goals as goal
 
 pub returns-then-code-lt-CELLS : goal.returns-then-code-lt-CELLS

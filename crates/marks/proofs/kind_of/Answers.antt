@@ -2,7 +2,6 @@
 use Rattle.model.specs.Places.{kind_of}
 use Rattle.model.proofs.Forms.{register, cell, public_cell, sensitive_cell, table_cell}
 use Rattle.marks.proofs.NumberTests.{low-kind}
-use borrow.Author.Rules.{rules}
 use Rattle.marks.proofs.kind_of.Goals as goal
 
 pub returns-then-code-lt-REGISTERS : goal.returns-then-code-lt-REGISTERS

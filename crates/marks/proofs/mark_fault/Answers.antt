@@ -4,7 +4,6 @@ use mathlib.Core.Bool.{true, ◌&&◌}
 use Prim.Native.Nat.{ℕ}
 use lib.Dec.{eqb, eqb→eq}
 use Rattle.model.proofs.TestLaws.{holds, and_both}
-use borrow.Author.Rules.{rules}
 use Rattle.marks.proofs.mark_fault.Goals as goal
 
 -- a bare line's numbers

@@ -1,6 +1,5 @@
 -- `marks::mark_fault_at` meets its contract. From the six numbers. Assumes nothing.
 use mathlib.Core.Path.{◌∙◌}
-use borrow.Author.Rules.{rules}
 use Rattle.marks.proofs.mark_fault_at.Goals as goal
 
 pub returns : goal.returns

@@ -1,7 +1,6 @@
 -- `marks::names_public` meets its contract. Range by range. Assumes nothing.
 use native.Mathlib.Omega.{arith}
 use Rattle.marks.proofs.NumberTests.{high_public, indirect_public, cell_public, low_public, register_public}
-use borrow.Author.Rules.{rules}
 use Rattle.marks.proofs.names_public.Goals as goal
 
 pub returns-then-code-ge-SENSITIVES : goal.returns-then-code-ge-SENSITIVES

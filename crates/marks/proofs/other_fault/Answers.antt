@@ -4,7 +4,6 @@ use Rattle.model.specs.Marks.{mark_fault}
 use Rattle.model.specs.Stored.{line_of}
 use Rattle.marks.proofs.MarkWalk.{broken, kept}
 use Rattle.marks.proofs.UsualOperands.{other_12}
-use borrow.Author.Rules.{rules}
 use Rattle.marks.proofs.other_fault.Goals as goal
 
 pub returns-then-holds10 : goal.returns-then-holds10

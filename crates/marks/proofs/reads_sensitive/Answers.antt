@@ -1,6 +1,5 @@
 -- `marks::reads_sensitive` meets its contract. The tests that it joins are those of the definition. Assumes nothing.
 use Rattle.model.specs.Marks.{reads_sensitive}
-use borrow.Author.Rules.{rules}
 use Rattle.marks.proofs.reads_sensitive.Goals as goal
 
 pub returns-then-is_marked : goal.returns-then-is_marked

@@ -4,7 +4,6 @@ use Rattle.model.specs.Marks.{mark_fault}
 use Rattle.model.specs.Stored.{line_of}
 use Rattle.marks.proofs.MarkWalk.{broken, kept}
 use Rattle.marks.proofs.UsualOperands.{usual_10, usual_12}
-use borrow.Author.Rules.{rules}
 use Rattle.marks.proofs.usual_fault.Goals as goal
 
 pub returns-then-holds11 : goal.returns-then-holds11
