@@ -1,14 +1,6 @@
 -- `printing::print` meets its contract: what is left to print, after the bytes so far, always gives the whole text. Assumes nothing.
-use Prim.Native.Nat.{ℕ, ◌-◌}
-use mathlib.Core.Path.{ap}
-use mathlib.Core.List.{List}
-use native.Mathlib.Omega.{arith}
-use borrow.Author.Rules.{rules}
-use lib.ListN.{get_or}
-use Rattle.model.specs.Stored.{line_of}
-use Rattle.model.specs.Text.{spell_line}
-use Rattle.printing.proofs.WroteLaws.{as_text}
-use Rattle.printing.proofs.PrintLaws.{Printed, printed_none, printed-next, printed_all}
+use Prim.Native.Nat.{◌-◌}
+use Rattle.printing.proofs.PrintLaws.{Printed}
 use Rattle.printing.proofs.print.Given as goal
 
 abbrev pub invariant-loop-i : goal.invariant-loop-i

@@ -1,5 +1,4 @@
 -- `printing::put_digit` meets its contract. Assumes nothing.
-use borrow.Author.Rules.{rules}
 use borrow.Author.Tests.{lt-ltb, le-ltb}
 use Rattle.model.specs.Text.{digit_at}
 use Rattle.printing.proofs.WroteLaws.{nothing}

@@ -1,5 +1,4 @@
 -- `printing::put_indirect` meets its contract. Assumes nothing.
-use borrow.Author.Rules.{rules}
 use Rattle.model.specs.Text.{indirect}
 use Rattle.printing.proofs.WroteLaws.{then}
 use Rattle.printing.proofs.put_indirect.Goals as goal

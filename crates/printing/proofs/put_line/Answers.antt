@@ -1,5 +1,4 @@
 -- `printing::put_line` meets its contract. Assumes nothing.
-use borrow.Author.Rules.{rules}
 use Rattle.model.specs.Text.{spell_line}
 use Rattle.printing.proofs.WroteLaws.{then}
 use Rattle.printing.proofs.put_line.Goals as goal

@@ -1,5 +1,4 @@
 -- `printing::put_listed` meets its contract. Assumes nothing.
-use borrow.Author.Rules.{rules}
 use Rattle.printing.proofs.WroteLaws.{then}
 use Rattle.printing.proofs.put_listed.Goals as goal
 

@@ -1,5 +1,4 @@
 -- `printing::put_mark` meets its contract. Assumes nothing.
-use borrow.Author.Rules.{rules}
 use borrow.Author.Tests.{eq-eqb, ne_eqb}
 use Rattle.model.specs.Text.{spell_mark}
 use Rattle.printing.proofs.put_mark.Goals as goal

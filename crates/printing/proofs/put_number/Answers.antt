@@ -1,5 +1,4 @@
 -- `printing::put_number` meets its contract. Assumes nothing.
-use borrow.Author.Rules.{rules}
 use Rattle.model.specs.Text.{decimal}
 use Rattle.printing.proofs.WroteLaws.{then}
 use Rattle.printing.proofs.put_number.Goals as goal

@@ -1,6 +1,5 @@
 -- `printing::put_opcode` meets its contract. Assumes nothing.
 use mathlib.Core.Path.{sym}
-use borrow.Author.Rules.{rules}
 use Rattle.printing.proofs.WroteLaws.{then, as_text}
 use Rattle.printing.proofs.put_opcode.Goals as goal
 

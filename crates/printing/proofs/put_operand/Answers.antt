@@ -1,6 +1,5 @@
 -- `printing::put_operand` meets its contract: the tests pick the form of the model's operand. Assumes nothing.
 use native.Mathlib.Omega.{arith}
-use borrow.Author.Rules.{rules}
 use borrow.Author.Tests.{lt-ltb, le-ltb}
 use Rattle.model.specs.Stored.{operand_of}
 use Rattle.model.specs.Text.{spell_operand}

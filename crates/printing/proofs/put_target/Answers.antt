@@ -1,5 +1,4 @@
 -- `printing::put_target` meets its contract. Assumes nothing.
-use borrow.Author.Rules.{rules}
 use borrow.Author.Tests.{eq-eqb, ne_eqb}
 use Rattle.model.specs.Stored.{target_of}
 use Rattle.model.specs.Text.{spell_target}
