@@ -6,7 +6,7 @@ use Rattle.machine.proofs.Outcomes.{no_program, no_state, no_room, admits}
 use Rattle.machine.proofs.admit.Goals as goal
 
 pub returns-in_default : goal.returns-in_default
-returns-in_default c = no_program _ _ _ _ c.check_program-checked.result c.in_default.in_default-own.keys2 c.check_program-checked.ensures
+returns-in_default c = no_program _ _ _ _ c.check_program-checked.result c.in_default.not-Count c.check_program-checked.ensures
 
 pub returns-then-size-ne-STATE_SIZE : goal.returns-then-size-ne-STATE_SIZE
 returns-then-size-ne-STATE_SIZE c = no_state _ _ _ _ _ (count-told c.in-Count.is c.check_program-checked.ensures) c.if-size-ne-STATE_SIZE.true

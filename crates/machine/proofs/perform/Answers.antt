@@ -36,4 +36,4 @@ returns c =
     c.mark_of-mark.ensures refl c.fetch-x.ensures c.fetch-y.ensures c.mask_arguments-args.ensures c.alu-result.ensures c.is_taken-jumps.ensures c.target_line.ensures c.advanced-next.ensures
     c.replace-r.ensures.at_value.0 c.replace-r.ensures.at_value.1 c.replace-r.ensures.state_after (stands a.a a.state.now) (stands a.b a.state.now) (stands a.d a.state.now)
     c.put_on_bus-first.ensures.0 c.put_on_bus-second.ensures.0 c.put_on_bus-destination.ensures.0 c.row_of-row.ensures in
-    ((done.0, done.1), ((done.2, c.put_on_bus-destination.ensures.1), done.3))
+    record { next_value = (done.0, done.1); bus_value = (done.2, c.put_on_bus-destination.ensures.1); state_after = done.3 }

@@ -7,7 +7,7 @@ use Rattle.machine.proofs.Outcomes.{admitted, turned_down, runs}
 use Rattle.machine.proofs.run.Goals as goal
 
 pub returns-in_default : goal.returns-in_default
-returns-in_default c = turned_down _ _ _ _ _ c.admit-checked.result c.in_default.in_default-own.keys2 c.admit-checked.ensures
+returns-in_default c = turned_down _ _ _ _ _ c.admit-checked.result c.in_default.not-Count c.admit-checked.ensures
 
 pub run_lines-requires : goal.run_lines-requires
 run_lines-requires c =

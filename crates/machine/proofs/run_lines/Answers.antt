@@ -33,11 +33,11 @@ loop-run-preserved c =
     let l = c.loop-run in
     let f = c.step-run in
     let p = c.args.program.now in (
-      omega (arith, tally p (machine l.run l.state l.trace) _ f.ensures.0),
-      f.ensures.1,
-      f.auto.1.1.1.1.0 ∙ l.invariant.2,
-      f.auto.1.1.1.1.1.0 ∙ l.invariant.3,
-      goes_on p _ _ (machine l.run l.state l.trace) _ _ c.loop-run-test.true c.if-budget-run.false f.ensures.0 l.invariant.4,
+      omega (arith, tally p (machine l.run l.state l.trace) _ f.ensures.trace_after),
+      f.ensures.bus_lt_addresses,
+      f.auto.state ∙ l.invariant.2,
+      f.auto.trace ∙ l.invariant.3,
+      goes_on p _ _ (machine l.run l.state l.trace) _ _ c.loop-run-test.true c.if-budget-run.false f.ensures.trace_after l.invariant.4,
     )
 
 pub shape_of-state : goal.shape_of-state

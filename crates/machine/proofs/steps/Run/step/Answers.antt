@@ -11,4 +11,4 @@ perform-done-requires c = let p = c.requires in (p.2, p.0, p.1, p.4)
 pub returns : goal.returns
 returns c =
     let a = c.args in record { trace_after = one_step _ (line_at a.program.now a.self.counter) a.self a.state.now _ a.trace.now _ c.perform-done.result.next c.perform-done.result.bus c.perform-done.result.row
-          (same_line _ a.program.now a.self.counter c.numbers_at-n.ensures) c.perform-done.ensures.next_value.0 c.perform-done.ensures.next_value.1 c.perform-done.ensures.bus_value.0.0 c.perform-done.ensures.bus_value.1 c.write_row.ensures; bus_lt_addresses = c.perform-done.ensures.bus_value.0.1 }
+          (same_line _ a.program.now a.self.counter c.numbers_at-n.ensures) c.perform-done.ensures.next_value.0 c.perform-done.ensures.next_value.1 c.perform-done.ensures.bus_value.0 c.perform-done.ensures.state_after c.write_row.ensures; bus_lt_addresses = c.perform-done.ensures.bus_value.1 }
