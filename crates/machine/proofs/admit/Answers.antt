@@ -1,6 +1,6 @@
 -- `machine::admit` meets its contract: each refusal, and the count. The check of a program answers a count or a refusal alone.
 -- Assumes nothing.
-use Rattle.std.proofs.Common.{◌∙◌, rules}
+use Rattle.std.proofs.Common.{◌∙◌}
 use Rattle.model.proofs.CheckAnswers.{count-told}
 use Rattle.machine.proofs.Outcomes.{no_program, no_state, no_room, admits}
 use Rattle.machine.proofs.admit.Goals as goal

@@ -1,5 +1,5 @@
 -- `machine::alu` meets its contract, by the number of the opcode. Assumes nothing.
-use Rattle.std.proofs.Common.{◌≡◌, ℕ, zero, suc, refl, arith, rules}
+use Rattle.std.proofs.Common.{◌≡◌, ℕ, zero, suc, refl, arith}
 use Rattle.model.specs.declared.Mark.{Mark}
 use Rattle.model.specs.Stored.{opcode_of}
 use Rattle.model.specs.Step.{alu}

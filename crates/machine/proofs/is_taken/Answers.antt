@@ -1,5 +1,5 @@
 -- `machine::is_taken` meets its contract, by the number of the opcode. Assumes nothing.
-use Rattle.std.proofs.Common.{◌≡◌, ℕ, zero, suc, Bool, false, refl}
+use Rattle.std.proofs.Common.{◌≡◌, ℕ, zero, suc, Bool, false, refl, arith}
 use Rattle.model.specs.Stored.{opcode_of}
 use Rattle.model.specs.Step.{taken}
 use Rattle.machine.proofs.is_taken.Goals as goal

@@ -1,5 +1,5 @@
 -- `machine::next_of` meets its contract: whether a line jumps is by its opcode, and where that leaves it open by its arguments. Assumes nothing.
-use Rattle.std.proofs.Common.{◌≡◌, ℕ, suc, ◌+◌, Bool, true, false, cond, T, sym, refl, ap, ◌∙◌, subst, add-one, rules}
+use Rattle.std.proofs.Common.{◌≡◌, ℕ, suc, ◌+◌, Bool, false, cond, T, sym, refl, ap, ◌∙◌, subst, add-one}
 use Rattle.model.specs.declared.Mark.{Mark}
 use Rattle.model.specs.declared.Opcode.{Opcode}
 use Rattle.model.specs.declared.Opcode.TheVariants.{Nop, Jmp, Not, Mov, And, Orr, Xor, Lsl, Lsr, Add, Mul, Beq, Bne}

@@ -1,5 +1,5 @@
 -- `machine::run` meets its contract: the refusals that are asked before, and the loop over steps. Assumes nothing.
-use Rattle.std.proofs.Common.{ℕ, ◌≤◌, ◌∙◌, subst, rules}
+use Rattle.std.proofs.Common.{ℕ, ◌≤◌, ◌∙◌, subst}
 use Rattle.model.specs.Limits.{max_lines}
 use Rattle.model.proofs.StoredLaws.{program_checked}
 use Rattle.model.proofs.CheckAnswers.{count-told}
