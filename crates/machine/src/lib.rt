@@ -303,7 +303,7 @@ struct Replaced {
 }
 
 fn replace(code: u16, res: u8, state: &mut [u8]) -> Replaced
-    ensures at_value { (result.at ≡ place (operand_of code) state.old) × (result.old ≡ slice_index state.old result.at) }
+    ensures replaced { (result.at ≡ place (operand_of code) state.old) × (result.old ≡ slice_index state.old result.at) }
     ensures state_after { state.new ≡ slice_set state.old result.at res }
 {
     let at = place_at(code, state);
@@ -499,8 +499,8 @@ fn perform(
     state: &mut [u8],
 ) -> Done
     requires { (counter < 65535) × Masks masks.now × Weights weights.now × (bus < addresses) }
-    ensures next_value { (result.next ≡ next (line_of m o d a b t) counter state.old) × (result.row ≡ row (line_of m o d a b t) counter state.old bus) }
-    ensures bus_value { (result.bus ≡ bus_after (line_of m o d a b t) state.old bus) × (result.bus < addresses) }
+    ensures next_and_row { (result.next ≡ next (line_of m o d a b t) counter state.old) × (result.row ≡ row (line_of m o d a b t) counter state.old bus) }
+    ensures bus_after { (result.bus ≡ bus_after (line_of m o d a b t) state.old bus) × (result.bus < addresses) }
     ensures state_after { state.new ≡ after (line_of m o d a b t) state.old }
 {
     let mark = coding::mark_of(m);
@@ -547,8 +547,8 @@ fn perform_seen(
     state: &mut [u8],
 ) -> DoneSeen
     requires { (counter < 65535) × Masks masks.now × Weights weights.now × (bus < addresses) }
-    ensures next_value { (result.next ≡ next (line_of m o d a b t) counter state.old) × (result.row ≡ row (line_of m o d a b t) counter state.old bus) }
-    ensures bus_value { (result.bus ≡ bus_after (line_of m o d a b t) state.old bus) × (result.bus < addresses) }
+    ensures next_and_row { (result.next ≡ next (line_of m o d a b t) counter state.old) × (result.row ≡ row (line_of m o d a b t) counter state.old bus) }
+    ensures bus_after { (result.bus ≡ bus_after (line_of m o d a b t) state.old bus) × (result.bus < addresses) }
     ensures state_after { (state.new ≡ after (line_of m o d a b t) state.old) × (result.place ≡ place (operand_of d) state.old) }
 {
     let mark = coding::mark_of(m);

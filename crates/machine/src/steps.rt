@@ -34,8 +34,8 @@ impl Run {
         trace: &mut [u16],
     ) -> Run
         requires { Masks masks.now × Weights weights.now × (self.counter < 65535) × (self.steps < 65535) × (self.bus < addresses) × (row_width * self.steps + row_width ≤ length trace.old) }
-        ensures trace_after { machine result state.new trace.new ≡ step_of program.now (machine self state.old trace.old) }
-        ensures bus_lt_addresses { result.bus < addresses }
+        ensures stepped { machine result state.new trace.new ≡ step_of program.now (machine self state.old trace.old) }
+        ensures bus_within { result.bus < addresses }
     {
         let counter = self.counter;
         let steps = self.steps;
@@ -63,8 +63,8 @@ impl Run {
         trace: &mut [u16],
     ) -> Stepped
         requires { Masks masks.now × Weights weights.now × (self.counter < 65535) × (self.steps < 65535) × (self.bus < addresses) × (row_width * self.steps + row_width ≤ length trace.old) }
-        ensures trace_after { machine (run_of result) state.new trace.new ≡ step_of program.now (machine self state.old trace.old) }
-        ensures bus_lt_addresses { (result.bus < addresses) × (result.place ≡ place (line_at program.now self.counter).destination state.old) }
+        ensures stepped { machine (run_of result) state.new trace.new ≡ step_of program.now (machine self state.old trace.old) }
+        ensures bus_and_place { (result.bus < addresses) × (result.place ≡ place (line_at program.now self.counter).destination state.old) }
     {
         let counter = self.counter;
         let tally = self.steps;

@@ -1,5 +1,5 @@
 -- `machine::address_weight` meets its contract: a cell has an address, and any other place has none. Assumes nothing.
-use Rattle.std.proofs.Common.{sym, ap, ◌∙◌, arith, rules}
+use Rattle.std.proofs.Common.{sym, ap, ◌∙◌, arith}
 use lib.Count.{ones}
 use Rattle.model.specs.Step.{weight}
 use Rattle.machine.proofs.NamedPlaces.{cell_range, no_address, in_cell}

@@ -1,5 +1,5 @@
 -- `machine::advanced` meets its contract. Assumes nothing.
-use Rattle.std.proofs.Common.{add-one, rules}
+use Rattle.std.proofs.Common.{add-one}
 use Rattle.machine.proofs.advanced.Goals as goal
 
 pub returns-else-jumps : goal.returns-else-jumps

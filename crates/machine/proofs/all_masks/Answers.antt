@@ -1,8 +1,7 @@
 -- `machine::all_masks` meets its contract. The loop's invariant: the first i entries stand. Assumes nothing.
-use Rattle.std.proofs.Common.{◌≡◌, ◌+◌, ◌-◌, ◌≤◌, length, ◌∙◌, arith, length-set, rules}
-use Rattle.model.specs.Limits.{state_size}
+use Rattle.std.proofs.Common.{◌∙◌, arith, length-set, rules}
 use Rattle.machine.specs.Loop.{mask}
-use Rattle.machine.proofs.PlaceTables.{First, first_more, first_all}
+use Rattle.machine.proofs.PlaceTables.{first_more, first_all}
 use Rattle.machine.proofs.all_masks.Goals as goal
 
 pub loop-i-init : goal.loop-i-init

@@ -1,8 +1,8 @@
 -- `machine::all_masks` meets its contract. The loop's invariant: the first i entries stand. Assumes nothing.
-use Rattle.std.proofs.Common.{◌≡◌, ◌+◌, ◌-◌, ◌≤◌, length, ◌∙◌, arith, length-set, rules}
+use Rattle.std.proofs.Common.{◌≡◌, ◌+◌, ◌-◌, ◌≤◌, length}
 use Rattle.model.specs.Limits.{state_size}
 use Rattle.machine.specs.Loop.{mask}
-use Rattle.machine.proofs.PlaceTables.{First, first_more, first_all}
+use Rattle.machine.proofs.PlaceTables.{First}
 use Rattle.machine.proofs.all_masks.Given as goal
 
 abbrev pub invariant-loop-i : goal.invariant-loop-i

@@ -1,9 +1,8 @@
 -- `machine::all_weights` meets its contract. The loop's invariant: the first i entries stand. Assumes nothing.
-use Rattle.std.proofs.Common.{◌≡◌, ◌+◌, ◌-◌, ◌≤◌, length, ◌∙◌, arith, length-set, rules}
-use Rattle.model.specs.Limits.{state_size}
+use Rattle.std.proofs.Common.{◌∙◌, arith, length-set, rules}
 use Rattle.model.specs.Step.{weight}
 use Rattle.machine.specs.Loop.{address_at}
-use Rattle.machine.proofs.PlaceTables.{First, first_more, first_all}
+use Rattle.machine.proofs.PlaceTables.{first_more, first_all}
 use Rattle.machine.proofs.all_weights.Goals as goal
 
 pub loop-i-init : goal.loop-i-init

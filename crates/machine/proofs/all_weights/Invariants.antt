@@ -1,9 +1,9 @@
 -- `machine::all_weights` meets its contract. The loop's invariant: the first i entries stand. Assumes nothing.
-use Rattle.std.proofs.Common.{◌≡◌, ◌+◌, ◌-◌, ◌≤◌, length, ◌∙◌, arith, length-set, rules}
+use Rattle.std.proofs.Common.{◌≡◌, ◌+◌, ◌-◌, ◌≤◌, length}
 use Rattle.model.specs.Limits.{state_size}
 use Rattle.model.specs.Step.{weight}
 use Rattle.machine.specs.Loop.{address_at}
-use Rattle.machine.proofs.PlaceTables.{First, first_more, first_all}
+use Rattle.machine.proofs.PlaceTables.{First}
 use Rattle.machine.proofs.all_weights.Given as goal
 
 abbrev pub invariant-loop-i : goal.invariant-loop-i

@@ -1,5 +1,5 @@
 -- `machine::alu` meets its contract, by the number of the opcode. Assumes nothing.
-use Rattle.std.proofs.Common.{◌≡◌, ℕ, zero, suc, refl, rules}
+use Rattle.std.proofs.Common.{◌≡◌, ℕ, zero, suc, refl, arith}
 use Rattle.model.specs.declared.Mark.{Mark}
 use Rattle.model.specs.Stored.{opcode_of}
 use Rattle.model.specs.Step.{alu}
@@ -57,13 +57,11 @@ returns-in-8 c = arm _ 8 c.args.o _ _ _ c.in-8.is c.shifted-in-8.ensures
 
 pub returns-in-9 : goal.returns-in-9
 unfolding alu
-returns-in-9 c = arm _ 9 c.args.o _ _ _ c.in-9.is c.wrapping_add_u8.ensures
+returns-in-9 c = arm _ 9 c.args.o _ _ _ c.in-9.is c.wrapping_add_u8.ensures.value
 
 pub returns-in-10 : goal.returns-in-10
 unfolding alu
 returns-in-10 c = arm _ 10 c.args.o _ _ _ c.in-10.is c.times.ensures
 
 pub returns-in_default : goal.returns-in_default
-returns-in_default c =
-    let r = c.in_default.in_default-own.rest in
-    idle _ c.args.o _ _ r.0.0.0.0.0.0.0.0.1 r.0.0.0.0.0.0.0.1 r.0.0.0.0.0.0.1 r.0.0.0.0.0.1 r.0.0.0.0.1 r.0.0.0.1 r.0.0.1 r.0.1 r.1
+returns-in_default c = idle _ c.args.o _ _ (λ e. omega arith) (λ e. omega arith) (λ e. omega arith) (λ e. omega arith) (λ e. omega arith) (λ e. omega arith) (λ e. omega arith) (λ e. omega arith) (λ e. omega arith)

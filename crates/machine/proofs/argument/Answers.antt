@@ -1,5 +1,5 @@
 -- `machine::argument` meets its contract, by the mark and the kind of the place. Assumes nothing.
-use Rattle.std.proofs.Common.{◌≡◌, ℕ, ◌%◌, Bool, true, false, rules}
+use Rattle.std.proofs.Common.{◌≡◌, ℕ, ◌%◌, Bool, true, false}
 use Rattle.model.specs.declared.Kind.{Kind}
 use Rattle.model.specs.declared.Mark.{Mark}
 use Rattle.model.specs.declared.Mark.TheVariants.{Unmarked, Marked}

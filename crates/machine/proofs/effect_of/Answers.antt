@@ -1,5 +1,5 @@
 -- `machine::effect_of` meets its contract: the parts of a step from what each call gives. Assumes nothing.
-use Rattle.std.proofs.Common.{◌≡◌, ℕ, List, get_or, refl, rules}
+use Rattle.std.proofs.Common.{◌≡◌, ℕ, List, get_or, refl}
 use Rattle.model.specs.declared.Mark.{Mark}
 use Rattle.model.specs.declared.Opcode.{Opcode}
 use Rattle.model.specs.declared.Line.{Line}

@@ -1,5 +1,5 @@
 -- `machine::fetch` meets its contract: an empty field and a literal read no place, every other operand reads its own. Assumes nothing.
-use Rattle.std.proofs.Common.{◌≡◌, ℕ, get_or, rules}
+use Rattle.std.proofs.Common.{◌≡◌, ℕ, get_or}
 use Rattle.model.specs.declared.Operand.{Operand}
 use Rattle.model.specs.Places.{State, value, place}
 use Rattle.machine.specs.Loop.{fetch_of}

@@ -1,5 +1,5 @@
 -- `machine::indirect` meets its contract: the base is at most n, and the offset below the span. Assumes nothing.
-use Rattle.std.proofs.Common.{mod-lt, div-le_self, arith, rules}
+use Rattle.std.proofs.Common.{mod-lt, div-le_self, arith}
 use Rattle.machine.proofs.indirect.Goals as goal
 
 pub overflow_cast-n : goal.overflow_cast-n

@@ -1,5 +1,5 @@
 -- `machine::is_taken` meets its contract, by the number of the opcode. Assumes nothing.
-use Rattle.std.proofs.Common.{◌≡◌, ℕ, zero, suc, Bool, false, refl}
+use Rattle.std.proofs.Common.{◌≡◌, ℕ, zero, suc, Bool, false, refl, arith}
 use Rattle.model.specs.Stored.{opcode_of}
 use Rattle.model.specs.Step.{taken}
 use Rattle.machine.proofs.is_taken.Goals as goal
@@ -39,4 +39,4 @@ unfolding taken
 returns-in-12 c = arm 12 c.args.o _ _ _ c.in-12.is refl
 
 pub returns-in_default : goal.returns-in_default
-returns-in_default c = let r = c.in_default.in_default-own.rest in stays c.args.o _ _ r.0.0.1 r.0.1 r.1
+returns-in_default c = stays c.args.o _ _ (λ e. omega arith) (λ e. omega arith) (λ e. omega arith)

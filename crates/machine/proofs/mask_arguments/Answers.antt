@@ -1,5 +1,5 @@
 -- `machine::mask_arguments` meets its contract, by the mark: a mask keeps of a byte what a marked line reads of it. Assumes nothing.
-use Rattle.std.proofs.Common.{◌≡◌, ℕ, ◌%◌, ◌<◌, Bool, true, false, cond, ◌∙◌, mod-eq_of_lt, arith, rules}
+use Rattle.std.proofs.Common.{◌≡◌, ℕ, ◌%◌, ◌<◌, Bool, true, false, cond, ◌∙◌, mod-eq_of_lt, arith}
 use lib.Bits.{bit_and, and_mask}
 use Rattle.model.specs.declared.Mark.{Mark}
 use Rattle.model.specs.declared.Mark.TheVariants.{Unmarked, Marked}

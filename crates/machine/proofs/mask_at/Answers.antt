@@ -1,5 +1,5 @@
 -- `machine::mask_at` meets its contract, by the kind of the place. Assumes nothing.
-use Rattle.std.proofs.Common.{◌≡◌, ℕ, Bool, true, false, rules}
+use Rattle.std.proofs.Common.{◌≡◌, ℕ, Bool, true, false}
 use Rattle.model.specs.declared.Kind.{Kind}
 use Rattle.model.specs.Places.{kind, is_public}
 use Rattle.machine.specs.Loop.{mask}

@@ -1,5 +1,4 @@
 -- `machine::negated` meets its contract, for each mark. Assumes nothing.
-use Rattle.std.proofs.Common.{rules}
 use Rattle.model.specs.Step.{negated}
 use Rattle.machine.proofs.negated.Goals as goal
 

@@ -1,6 +1,5 @@
 -- `machine::next_of` meets its contract: whether a line jumps is by its opcode, and where that leaves it open by its arguments. Assumes nothing.
-use Rattle.std.proofs.Common.{◌≡◌, ℕ, suc, ◌+◌, Bool, true, false, cond, T, sym, refl, ap, ◌∙◌, subst, add-one, rules}
-use borrow.Author.Tests.{not-true}
+use Rattle.std.proofs.Common.{◌≡◌, ℕ, suc, ◌+◌, Bool, false, cond, T, sym, refl, ap, ◌∙◌, subst, add-one}
 use Rattle.model.specs.declared.Mark.{Mark}
 use Rattle.model.specs.declared.Opcode.{Opcode}
 use Rattle.model.specs.declared.Opcode.TheVariants.{Nop, Jmp, Not, Mov, And, Orr, Xor, Lsl, Lsr, Add, Mul, Beq, Bne}
@@ -51,7 +50,7 @@ returns-then-not-may_jump c =
     let w = c.may_jump in
     let p = c.opcode_of-opcode in
     let s = c.args in
-    goes_on (line_of s.m s.o 0 s.a s.b s.t) s.counter s.state.now (ap jumps (sym p.ensures) ∙ sym w.ensures ∙ not-true _ i.true)
+    goes_on (line_of s.m s.o 0 s.a s.b s.t) s.counter s.state.now (ap jumps (sym p.ensures) ∙ sym w.ensures ∙ i.true)
 
 pub returns : goal.returns
 returns c =

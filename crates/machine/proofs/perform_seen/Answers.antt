@@ -1,5 +1,5 @@
 -- `machine::perform_seen` meets its contract, as `perform` does; the place is the one that was replaced. Assumes nothing.
-use Rattle.std.proofs.Common.{refl, rules}
+use Rattle.std.proofs.Common.{refl}
 use Rattle.model.specs.Stored.{opcode_of, line_of}
 use Rattle.machine.proofs.NamedPlaces.{place_most, fetched_most, cell_by, fetched_by}
 use Rattle.machine.proofs.RowsRead.{stands}
@@ -21,7 +21,7 @@ pub advanced-next-requires : goal.advanced-next-requires
 advanced-next-requires c = c.requires.0
 
 pub put_on_bus-destination-requires : goal.put_on_bus-destination-requires
-put_on_bus-destination-requires c = (c.requires.2, rw c.replace-written.ensures.at_value.0 (place_most c.args.state.now c.args.d), rw c.replace-written.ensures.at_value.0 (cell_by c.args.state.now c.args.d), c.put_on_bus-second.ensures.1)
+put_on_bus-destination-requires c = (c.requires.2, rw c.replace-written.ensures.replaced.0 (place_most c.args.state.now c.args.d), rw c.replace-written.ensures.replaced.0 (cell_by c.args.state.now c.args.d), c.put_on_bus-second.ensures.1)
 
 pub row_of-row-requires : goal.row_of-row-requires
 row_of-row-requires c = c.requires.2
@@ -34,6 +34,6 @@ returns c =
     c.mark_of-mark.result (opcode_of a.o) c.is_taken-jumps.result c.fetch-x.result c.fetch-y.result c.mask_arguments-args.result
     c.replace-written.result.at _ _ _ _ c.put_on_bus-first.result c.put_on_bus-second.result c.put_on_bus-destination.result c.row_of-row.result
     c.mark_of-mark.ensures refl c.fetch-x.ensures c.fetch-y.ensures c.mask_arguments-args.ensures c.alu-result.ensures c.is_taken-jumps.ensures c.target_line.ensures c.advanced-next.ensures
-    c.replace-written.ensures.at_value.0 c.replace-written.ensures.at_value.1 c.replace-written.ensures.state_after (stands a.a a.state.now) (stands a.b a.state.now) (stands a.d a.state.now)
+    c.replace-written.ensures.replaced.0 c.replace-written.ensures.replaced.1 c.replace-written.ensures.state_after (stands a.a a.state.now) (stands a.b a.state.now) (stands a.d a.state.now)
     c.put_on_bus-first.ensures.0 c.put_on_bus-second.ensures.0 c.put_on_bus-destination.ensures.0 c.row_of-row.ensures in
-    ((done.0, done.1), ((done.2, c.put_on_bus-destination.ensures.1), (done.3, c.replace-written.ensures.at_value.0)))
+    record { next_and_row = (done.0, done.1); bus_after = (done.2, c.put_on_bus-destination.ensures.1); state_after = (done.3, c.replace-written.ensures.replaced.0) }

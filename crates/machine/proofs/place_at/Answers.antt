@@ -1,5 +1,5 @@
 -- `machine::place_at` meets its contract: an empty field and a literal name no place. Assumes nothing.
-use Rattle.std.proofs.Common.{sym, rules}
+use Rattle.std.proofs.Common.{sym}
 use Rattle.machine.proofs.NamedPlaces.{no_place}
 use Rattle.machine.proofs.place_at.Goals as goal
 

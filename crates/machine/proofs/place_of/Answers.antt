@@ -1,5 +1,5 @@
 -- `machine::place_of` meets its contract, form by form: the tests are those that decode the number. Assumes nothing.
-use Rattle.std.proofs.Common.{◌+◌, ap, rules}
+use Rattle.std.proofs.Common.{◌+◌, ap}
 use Rattle.model.specs.Places.{place}
 use Rattle.model.proofs.Forms.{register, cell, public_cell, sensitive_cell, table_cell}
 use Rattle.machine.proofs.place_of.Goals as goal

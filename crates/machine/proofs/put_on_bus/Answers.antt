@@ -1,5 +1,5 @@
 -- `machine::put_on_bus` meets its contract: a cell has an address, and any other place has none. Assumes nothing.
-use Rattle.std.proofs.Common.{◌≡◌, ℕ, ◌-◌, true, false, arith, rules}
+use Rattle.std.proofs.Common.{◌≡◌, ℕ, ◌-◌, true, false, arith}
 use lib.Count.{ones}
 use Rattle.model.specs.Step.{weight, distance}
 use Rattle.model.proofs.Pieces.{distance_same}

@@ -1,5 +1,5 @@
 -- `machine::read` meets its contract: past the end `get_or` gives 0. Assumes nothing.
-use Rattle.std.proofs.Common.{sym, rules}
+use Rattle.std.proofs.Common.{sym}
 use lib.ListN.{get_or-eq_default}
 use Rattle.machine.proofs.read.Goals as goal
 

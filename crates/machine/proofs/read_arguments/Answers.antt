@@ -1,5 +1,5 @@
 -- `machine::read_arguments` meets its contract: each argument is one call. Assumes nothing.
-use Rattle.std.proofs.Common.{◌≡◌, ℕ, rules}
+use Rattle.std.proofs.Common.{◌≡◌, ℕ}
 use Rattle.model.specs.declared.Mark.{Mark}
 use Rattle.machine.specs.declared.Fetched.{Fetched}
 use Rattle.machine.specs.Loop.{read_as, arguments_of}

@@ -1,5 +1,5 @@
 -- `machine::run` meets its contract: the refusals that are asked before, and the loop over steps. Assumes nothing.
-use Rattle.std.proofs.Common.{ℕ, ◌≤◌, ◌∙◌, subst, rules}
+use Rattle.std.proofs.Common.{ℕ, ◌≤◌, ◌∙◌, subst}
 use Rattle.model.specs.Limits.{max_lines}
 use Rattle.model.proofs.StoredLaws.{program_checked}
 use Rattle.model.proofs.CheckAnswers.{count-told}
@@ -7,7 +7,7 @@ use Rattle.machine.proofs.Outcomes.{admitted, turned_down, runs}
 use Rattle.machine.proofs.run.Goals as goal
 
 pub returns-in_default : goal.returns-in_default
-returns-in_default c = turned_down _ _ _ _ _ c.admit-checked.result c.in_default.in_default-own.keys2 c.admit-checked.ensures
+returns-in_default c = turned_down _ _ _ _ _ c.admit-checked.result c.in_default.not-Count c.admit-checked.ensures
 
 pub run_lines-requires : goal.run_lines-requires
 run_lines-requires c =

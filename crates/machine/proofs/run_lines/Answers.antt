@@ -1,8 +1,7 @@
 -- `machine::run_lines` meets its contract. The loop's invariant: the steps that are left give the same outcome as the whole run.
 -- The measure is what is left of the budget. Assumes nothing.
-use Rattle.std.proofs.Common.{◌≡◌, ◌-◌, ◌<◌, ◌≤◌, length, sym, ◌∙◌, arith, lit<, rules}
-use Rattle.model.specs.Stored.{line_count}
-use Rattle.machine.specs.Loop.{addresses, machine, run_from}
+use Rattle.std.proofs.Common.{sym, ◌∙◌, arith, lit<, rules}
+use Rattle.machine.specs.Loop.{machine}
 use Rattle.machine.proofs.Loops.{begins, halts, spends, goes_on, tally}
 use Rattle.machine.proofs.run_lines.Goals as goal
 
@@ -26,18 +25,18 @@ step-run-requires c = (c.all_masks-masks.ensures, c.all_weights-weights.ensures,
 pub loop-run-smaller : goal.loop-run-smaller
 loop-run-smaller c =
     let l = c.loop-run in
-    omega (arith, tally c.args.program.now (machine l.run l.state l.trace) _ c.step-run.ensures.trace_after)
+    omega (arith, tally c.args.program.now (machine l.run l.state l.trace) _ c.step-run.ensures.stepped)
 
 pub loop-run-preserved : goal.loop-run-preserved
 loop-run-preserved c =
     let l = c.loop-run in
     let f = c.step-run in
     let p = c.args.program.now in (
-      omega (arith, tally p (machine l.run l.state l.trace) _ f.ensures.0),
-      f.ensures.1,
-      f.auto.1.1.1.1.0 ∙ l.invariant.2,
-      f.auto.1.1.1.1.1.0 ∙ l.invariant.3,
-      goes_on p _ _ (machine l.run l.state l.trace) _ _ c.loop-run-test.true c.if-budget-run.false f.ensures.0 l.invariant.4,
+      omega (arith, tally p (machine l.run l.state l.trace) _ f.ensures.stepped),
+      f.ensures.bus_within,
+      f.auto.state ∙ l.invariant.2,
+      f.auto.trace ∙ l.invariant.3,
+      goes_on p _ _ (machine l.run l.state l.trace) _ _ c.loop-run-test.true c.if-budget-run.false f.ensures.stepped l.invariant.4,
     )
 
 pub shape_of-state : goal.shape_of-state

@@ -1,9 +1,8 @@
 -- `machine::run_lines` meets its contract. The loop's invariant: the steps that are left give the same outcome as the whole run.
 -- The measure is what is left of the budget. Assumes nothing.
-use Rattle.std.proofs.Common.{◌≡◌, ◌-◌, ◌<◌, ◌≤◌, length, sym, ◌∙◌, arith, lit<, rules}
+use Rattle.std.proofs.Common.{◌≡◌, ◌-◌, ◌<◌, ◌≤◌, length}
 use Rattle.model.specs.Stored.{line_count}
 use Rattle.machine.specs.Loop.{addresses, machine, run_from}
-use Rattle.machine.proofs.Loops.{begins, halts, spends, goes_on, tally}
 use Rattle.machine.proofs.run_lines.Given as goal
 
 abbrev pub invariant-loop-run : goal.invariant-loop-run

@@ -1,5 +1,4 @@
 -- `machine::shifted` meets its contract: the code takes the count as the shift rule does. Assumes nothing.
-use Rattle.std.proofs.Common.{rules}
 use Rattle.machine.proofs.shifted.Goals as goal
 
 pub returns-then-left : goal.returns-then-left

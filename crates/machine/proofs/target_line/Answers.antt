@@ -1,5 +1,5 @@
 -- `machine::target_line` meets its contract. Assumes nothing.
-use Rattle.std.proofs.Common.{rules, eq-eqb, ne_eqb}
+use Rattle.std.proofs.Common.{eq-eqb, ne_eqb}
 use Rattle.model.specs.Stored.{target_of}
 use Rattle.model.specs.Step.{target_line}
 use Rattle.machine.proofs.target_line.Goals as goal

@@ -1,5 +1,5 @@
 -- `machine::weight` meets its contract: a number of 16 bits has at most 16 ones. Assumes nothing.
-use Rattle.std.proofs.Common.{arith, rules}
+use Rattle.std.proofs.Common.{arith}
 use lib.Count.{ones-le}
 use Rattle.machine.proofs.weight.Goals as goal
 

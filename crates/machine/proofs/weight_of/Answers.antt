@@ -1,5 +1,5 @@
 -- `machine::weight_of` meets its contract: the entry of the cell that has the number. Assumes nothing.
-use Rattle.std.proofs.Common.{ap, ◌∙◌, arith, rules}
+use Rattle.std.proofs.Common.{ap, ◌∙◌, arith}
 use Rattle.model.specs.Step.{weight}
 use Rattle.machine.proofs.NamedPlaces.{cell_address}
 use Rattle.machine.proofs.weight_of.Goals as goal

@@ -1,5 +1,5 @@
 -- `machine::write` meets its contract: past the end `set` changes nothing. Assumes nothing.
-use Rattle.std.proofs.Common.{sym, rules}
+use Rattle.std.proofs.Common.{sym}
 use lib.Seq.{set_out}
 use Rattle.machine.proofs.write.Goals as goal
 

@@ -1,7 +1,7 @@
 -- `machine::write_row` meets its contract. The loop's invariant: the first i numbers of the row stand in the store, the rest of
 -- it is as it was. The measure is what is left of the row. Assumes nothing.
-use Rattle.std.proofs.Common.{◌≡◌, ℕ, ◌+◌, ◌-◌, ◌*◌, ◌<◌, ◌≤◌, List, ◌++◌, length, get_or, take, drop, set, ap, ◌∙◌, add-one, arith, take_all, rules}
-use lib.Seq.{paste, paste-zero, paste-suc, length-paste}
+use Rattle.std.proofs.Common.{◌≡◌, ◌-◌, ◌*◌, ◌≤◌, length}
+use lib.Seq.{paste}
 use Rattle.model.specs.Limits.{row_width}
 use Rattle.machine.proofs.write_row.Given as goal
 
