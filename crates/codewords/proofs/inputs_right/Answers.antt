@@ -1,7 +1,5 @@
 -- `codewords::inputs_right` meets its contract. The code tests what the definition tests, in its order. Assumes nothing.
 use native.Mathlib.Omega.{arith}
-use borrow.Author.Rules.{rules}
-use borrow.Author.Tests.{not-true, not-false}
 use Rattle.codewords.specs.Codewords.{inputs_right}
 use Rattle.codewords.proofs.LoopLaws.{tests, wrong_size, wrong_count, by_weights}
 use Rattle.codewords.proofs.inputs_right.Goals as goal

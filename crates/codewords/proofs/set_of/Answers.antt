@@ -1,11 +1,7 @@
 -- `codewords::set_of` meets its contract. The words so far, and zeros. Assumes nothing.
-use mathlib.Core.Path.{◌≡◌, refl, ◌∙◌}
-use mathlib.Core.List.{◌++◌, map}
-use Prim.Native.Nat.{◌-◌, ◌≤◌}
+use mathlib.Core.Path.{refl, ◌∙◌}
 use native.Mathlib.Omega.{arith}
-use borrow.Author.Rules.{rules}
-use lib.ListN.{length, take, replicate, length-set}
-use Rattle.codewords.specs.Keys.{word_of}
+use lib.ListN.{length-set}
 use Rattle.codewords.proofs.LoopLaws.{set_next, set_end}
 use Rattle.codewords.proofs.set_of.Goals as goal
 

@@ -1,12 +1,9 @@
 -- `codewords::set_of` meets its contract. The words so far, and zeros. Assumes nothing.
-use mathlib.Core.Path.{◌≡◌, refl, ◌∙◌}
+use mathlib.Core.Path.{◌≡◌}
 use mathlib.Core.List.{◌++◌, map}
 use Prim.Native.Nat.{◌-◌, ◌≤◌}
-use native.Mathlib.Omega.{arith}
-use borrow.Author.Rules.{rules}
-use lib.ListN.{length, take, replicate, length-set}
+use lib.ListN.{length, take, replicate}
 use Rattle.codewords.specs.Keys.{word_of}
-use Rattle.codewords.proofs.LoopLaws.{set_next, set_end}
 use Rattle.codewords.proofs.set_of.Given as goal
 
 abbrev pub invariant-loop-i : goal.invariant-loop-i

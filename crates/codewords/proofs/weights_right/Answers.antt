@@ -1,10 +1,6 @@
 -- `codewords::weights_right` meets its contract. What is left decides as the whole does. Assumes nothing.
-use mathlib.Core.Path.{◌≡◌, refl, ◌∙◌}
-use Prim.Native.Nat.{◌-◌, ◌≤◌}
+use mathlib.Core.Path.{refl, ◌∙◌}
 use native.Mathlib.Omega.{arith}
-use borrow.Author.Rules.{rules}
-use lib.ListN.{length, drop}
-use Rattle.codewords.specs.Codewords.{weights_right}
 use Rattle.codewords.proofs.LoopLaws.{right-next, right_fail, right_end}
 use Rattle.codewords.proofs.weights_right.Goals as goal
 

@@ -1,11 +1,8 @@
 -- `codewords::weights_right` meets its contract. What is left decides as the whole does. Assumes nothing.
-use mathlib.Core.Path.{◌≡◌, refl, ◌∙◌}
+use mathlib.Core.Path.{◌≡◌}
 use Prim.Native.Nat.{◌-◌, ◌≤◌}
-use native.Mathlib.Omega.{arith}
-use borrow.Author.Rules.{rules}
 use lib.ListN.{length, drop}
 use Rattle.codewords.specs.Codewords.{weights_right}
-use Rattle.codewords.proofs.LoopLaws.{right-next, right_fail, right_end}
 use Rattle.codewords.proofs.weights_right.Given as goal
 
 abbrev pub invariant-loop-i : goal.invariant-loop-i
