@@ -22,7 +22,8 @@ use Rattle.model.specs.declared.Opcode.TheVariants.{And, Orr, Xor}
 use Rattle.model.specs.Images.{map_at, fixed, fixed_right, every}
 use Rattle.model.proofs.TestLaws.{is_true, and_both, all_below, all_below_lem, below}
 use Rattle.model.proofs.SpellingLaws.{same_bytes_lem}
-use Rattle.model.proofs.Finite.{table_op, for_layouts, for_layouts_lem}
+use Rattle.model.proofs.EachLayout.{for_layouts, for_layouts_lem}
+use Rattle.model.proofs.Finite.{table_op}
 use Rattle.model.proofs.PlaceLaws.{map_at-length, map_at-get_or}
 use Rattle.images.specs.Pages.{entries, Small, entered, copied, paged, page_bytes}
 

@@ -22,7 +22,7 @@ use Rattle.model.specs.Images.{image}
 use Rattle.model.specs.Expansion.{marked_line, move, load, scale, combine, fetch, flip, write_back, start, expand}
 use Rattle.model.specs.Marks.{Accepted}
 use Rattle.model.proofs.TestLaws.{all_below}
-use Rattle.model.proofs.Finite.{for_layouts}
+use Rattle.model.proofs.EachLayout.{for_layouts}
 
 -- ---- a program with every macro, where the destination is an argument, with a public literal, public bits, a cell behind a lookup, and a
 -- target behind a macro

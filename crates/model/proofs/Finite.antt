@@ -18,6 +18,7 @@ use Rattle.model.specs.Layouts.{layout_of, neighbours, Known, named}
 use Rattle.model.specs.Step.{weight, distance, alu}
 use Rattle.model.specs.Code.{code, page, and_table, orr_table, xor_table, code_table}
 use Rattle.model.proofs.TestLaws.{and_both, all_below, all_below_lem}
+use Rattle.model.proofs.EachLayout.{for_layouts, for_layouts_lem}
 
 -- ---- the three tables, by number
 
@@ -117,11 +118,7 @@ abbrev pub agree : List Pair → Bool
 agree [] = true
 agree (p ∷ ps) = eqb p.left p.right && agree ps
 
--- a test of each of the six layouts
-abbrev pub for_layouts : (Layout → Bool) → Bool
-for_layouts f = all_below (λ p. all_below (λ n. f (layout_of p n)) 2) 3
-
--- and of every table and both arguments' bits
+-- a test of each of the six layouts, of every table and both arguments' bits
 abbrev for_all : (Layout → ℕ → ℕ → ℕ → Bool) → Bool
 for_all f = for_layouts (λ L. all_below (λ o. all_below (λ a. all_below (λ b. f L o a b) 2) 2) 3)
 
@@ -130,12 +127,6 @@ unfolding all_below pairs code alu page ones distance
 passed = tt
 
 -- ---- from the test to each fact
-
--- the one place where the layouts are told apart
-pub for_layouts_lem : (f : Layout → Bool) → T (for_layouts f) → {L : Layout} → Known L → T (f L)
-for_layouts_lem f h (named p n w) =
-    let b = and_both (ltb p 3) (ltb n 2) w in
-    all_below_lem (λ n. f (layout_of p n)) 2 n (all_below_lem (λ p. all_below (λ n. f (layout_of p n)) 2) 3 p h (ltb→lt p 3 b.0)) (ltb→lt n 2 b.1)
 
 -- that of document 01 is one of the six
 pub near : Known neighbours

@@ -14,6 +14,7 @@ pub mod Parts
 pub mod PlaceLaws
 pub mod Operands
 pub mod Acceptance
+pub mod EachLayout
 pub mod Finite
 pub mod Pieces
 pub mod ImageLaws

@@ -18,7 +18,8 @@ use Rattle.model.specs.Code.{code, index, entry, and_table, orr_table, xor_table
 use Rattle.model.specs.Images.{to_image_outcome, from_image_outcome}
 use Rattle.model.specs.Expansion.{marked_line, move, code_bit, load, scale, combine, fetch, flip, write_back, lookup, expand, expand_outcome}
 use Rattle.model.proofs.TestLaws.{all_below}
-use Rattle.model.proofs.Finite.{Pair, pair, agree, for_layouts}
+use Rattle.model.proofs.EachLayout.{for_layouts}
+use Rattle.model.proofs.Finite.{Pair, pair, agree}
 use Rattle.model.proofs.Lengths.{lookup_pieces, scale_near, scale-spaced}
 
 -- ---- their numbers
