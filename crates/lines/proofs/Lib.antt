@@ -1,5 +1,4 @@
 pub mod LeftLaws
 pub mod LineTexts
 pub mod ReaderLaws
-pub mod ReaderParts
 pub mod InputLaws

@@ -1,5 +1,5 @@
-// The line reader of the two programs: a struct that refers to the caller's text and keeps the position reached. Each function over it is
-// proved by hand, so they are few and thin, and functions of a text and a position do the work.
+// The line reader of the two programs: a struct that refers to the caller's text and keeps the position reached. The functions over it are
+// few and thin, and functions of a text and a position do the work.
 ghost use Rattle.std.specs.Prelude.{◌≡◌, [], ◌∷◌, drop};
 ghost use Rattle.model.specs.Answers.{report, outcome};
 ghost use Rattle.model.specs.Text.{newline, past, read_outcome};

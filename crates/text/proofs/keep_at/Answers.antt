@@ -1,6 +1,5 @@
 -- `text::keep_at` meets its contract. Assumes nothing.
 use mathlib.Core.Path.{sym, ◌∙◌}
-use borrow.Author.Rules.{rules}
 use borrow.Author.Tests.{le-ltb}
 use Rattle.text.specs.Lines.{kept}
 use Rattle.text.proofs.StoreLaws.{kept_fits}

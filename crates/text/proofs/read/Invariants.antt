@@ -1,17 +1,8 @@
 -- `text::read` meets its contract: what is left to read, with the lines so far, always comes to what the whole text comes to.
 -- Assumes nothing.
-use Prim.Native.Nat.{ℕ, ◌+◌, ◌-◌}
-use mathlib.Core.Path.{◌≡◌, refl, sym, ap, ◌∙◌}
-use mathlib.Core.List.{[], ◌∷◌}
-use native.Mathlib.Omega.{arith}
-use borrow.Author.Rules.{rules}
-use lib.ListN.{drop}
+use Prim.Native.Nat.{◌-◌}
 use Rattle.model.specs.Limits.{max_lines}
-use Rattle.model.specs.Answers.{refused, outcome}
-use Rattle.model.specs.Text.{newline}
-use Rattle.text.specs.Lines.{meaning, numbers_of, refusal_of}
-use Rattle.text.proofs.PartLaws.{after_first}
-use Rattle.text.proofs.ReadLaws.{Left, left-first, left_same, left_done, left-full, left_room, left_stop, left-next}
+use Rattle.text.proofs.ReadLaws.{Left}
 use Rattle.text.proofs.read.Given as goal
 
 abbrev pub invariant-loop-rest : goal.invariant-loop-rest

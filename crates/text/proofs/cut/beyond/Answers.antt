@@ -1,7 +1,6 @@
 -- `text::cut::beyond` meets its contract. Assumes nothing.
 use Prim.Native.Nat.{◌+◌}
 use Rattle.text.proofs.PartLaws.{rest_all, rest_none}
-use borrow.Author.Rules.{rules}
 use Rattle.text.proofs.cut.beyond.Goals as goal
 
 pub returns-then-n-len : goal.returns-then-n-len

@@ -1,13 +1,8 @@
 -- `text::cut::count` meets its contract: what was counted and what the rest has are what the whole has. Assumes nothing.
-use borrow.Author.Rules.{rules}
 use Prim.Native.Nat.{◌≤◌, ◌+◌, ◌-◌}
 use mathlib.Core.Path.{◌≡◌}
-use mathlib.Core.Logic.{⊎_elim}
-use native.Mathlib.Omega.{arith}
-use native.Mathlib.Nat.{zero-add}
-use lib.ListN.{length, drop, drop_of_length-le}
+use lib.ListN.{length, drop}
 use Rattle.model.specs.Text.{count_of}
-use Rattle.text.proofs.PartLaws.{count-found, count_other}
 use Rattle.text.proofs.cut.count.Given as goal
 
 abbrev pub invariant-loop-i : goal.invariant-loop-i

@@ -1,13 +1,9 @@
 -- `text::cut::find` meets its contract: the bytes passed and those before the first c in the rest are as many as before the first
 -- c. Assumes nothing.
-use borrow.Author.Rules.{rules}
 use Prim.Native.Nat.{◌≤◌, ◌+◌, ◌-◌}
 use mathlib.Core.Path.{◌≡◌}
-use native.Mathlib.Omega.{arith}
-use native.Mathlib.Nat.{zero-add}
-use lib.ListN.{length, drop, drop_of_length-le}
+use lib.ListN.{length, drop}
 use Rattle.model.specs.Text.{up_to}
-use Rattle.text.proofs.PartLaws.{up_to_found, up_to_other}
 use Rattle.text.proofs.cut.find.Given as goal
 
 abbrev pub invariant-loop-i : goal.invariant-loop-i

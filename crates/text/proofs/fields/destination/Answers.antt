@@ -1,6 +1,5 @@
 -- `text::fields::destination` meets its contract. Assumes nothing.
 use mathlib.Core.Path.{ap, ◌∙◌}
-use borrow.Author.Rules.{rules}
 use Rattle.model.specs.Stored.{no_literal}
 use Rattle.text.proofs.fields.destination.Goals as goal
 

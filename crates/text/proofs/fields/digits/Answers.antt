@@ -1,8 +1,8 @@
 -- `text::fields::digits` meets its contract. What is left to read, from the number so far, is always what the whole was. Assumes nothing.
-use Prim.Native.Nat.{◌≤◌, ◌-◌}
-use mathlib.Core.Path.{◌≡◌, refl, sym, ◌∙◌}
+use Prim.Native.Nat.{◌≤◌}
+use mathlib.Core.Path.{refl, sym, ◌∙◌}
 use borrow.Author.Rules.{rules}
-use lib.ListN.{length, drop, drop_of_length-le}
+use lib.ListN.{length, drop_of_length-le}
 use Rattle.text.specs.Fields.{digits_from}
 use Rattle.text.proofs.DigitLaws.{low, high, over, next}
 use Rattle.text.proofs.fields.digits.Goals as goal

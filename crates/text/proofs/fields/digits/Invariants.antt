@@ -1,10 +1,8 @@
 -- `text::fields::digits` meets its contract. What is left to read, from the number so far, is always what the whole was. Assumes nothing.
 use Prim.Native.Nat.{◌≤◌, ◌-◌}
-use mathlib.Core.Path.{◌≡◌, refl, sym, ◌∙◌}
-use borrow.Author.Rules.{rules}
-use lib.ListN.{length, drop, drop_of_length-le}
+use mathlib.Core.Path.{◌≡◌}
+use lib.ListN.{length, drop}
 use Rattle.text.specs.Fields.{digits_from}
-use Rattle.text.proofs.DigitLaws.{low, high, over, next}
 use Rattle.text.proofs.fields.digits.Given as goal
 
 abbrev pub invariant-loop-i : goal.invariant-loop-i

@@ -1,7 +1,6 @@
 -- `text::fields::direct` meets its contract: the tests pick the case of `read_direct`. Assumes nothing.
 use borrow.Author.Tests.{eq-eqb, ne_eqb}
 use Rattle.text.specs.Fields.{read_direct}
-use borrow.Author.Rules.{rules}
 use Rattle.text.proofs.fields.direct.Goals as goal
 
 pub returns-then-c-eq35 : goal.returns-then-c-eq35

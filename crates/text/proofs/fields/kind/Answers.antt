@@ -1,7 +1,6 @@
 -- `text::fields::kind` meets its contract: the tests pick the case of `read_kind`. Assumes nothing.
 use borrow.Author.Tests.{eq-eqb, ne_eqb}
 use Rattle.text.specs.Fields.{read_kind}
-use borrow.Author.Rules.{rules}
 use Rattle.text.proofs.fields.kind.Goals as goal
 
 pub returns-then-c-eq33 : goal.returns-then-c-eq33

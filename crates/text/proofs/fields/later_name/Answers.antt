@@ -1,6 +1,5 @@
 -- `text::fields::later_name` meets its contract: the tests are those of the model's search. Assumes nothing.
 use mathlib.Core.Path.{sym, ◌∙◌}
-use borrow.Author.Rules.{rules}
 use Rattle.model.specs.Text.{spelled_from, spell_opcode}
 use Rattle.text.proofs.fields.later_name.Goals as goal
 

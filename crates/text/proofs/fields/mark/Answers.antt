@@ -1,7 +1,6 @@
 -- `text::fields::mark` meets its contract: the tests pick the case that the model's search finds. Assumes nothing.
 use borrow.Author.Tests.{eq-eqb, ne_eqb}
 use Rattle.text.proofs.FieldLaws.{mark_tests}
-use borrow.Author.Rules.{rules}
 use Rattle.text.proofs.fields.mark.Goals as goal
 
 pub returns-then-s-ne1 : goal.returns-then-s-ne1

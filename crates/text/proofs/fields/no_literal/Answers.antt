@@ -1,6 +1,5 @@
 -- `text::fields::no_literal` meets its contract: the numbers 1 to 256 are the literals'. Assumes nothing.
 use mathlib.Core.Path.{ap}
-use borrow.Author.Rules.{rules}
 use borrow.Author.Tests.{lt-ltb, le-ltb}
 use Rattle.text.specs.Fields.{found}
 use Rattle.text.proofs.FieldLaws.{literal_tests}

@@ -1,6 +1,5 @@
 -- `text::fields::number` meets its contract: the tests that led to each `return` pick the case of `read_number`. Assumes nothing.
 use native.Mathlib.Omega.{arith}
-use borrow.Author.Rules.{rules}
 use borrow.Author.Tests.{eq-eqb, ne_eqb}
 use lib.ListN.{length}
 use Rattle.text.specs.Fields.{read_number}

@@ -1,6 +1,5 @@
 -- `text::fields::target` meets its contract: it finds what the model's search finds. Assumes nothing.
 use mathlib.Core.Path.{◌≡◌, ap, ◌∙◌}
-use borrow.Author.Rules.{rules}
 use borrow.Author.Tests.{eq-eqb, ne_eqb}
 use Rattle.text.specs.Fields.{found}
 use Rattle.text.specs.declared.Field.TheVariants.{Is}

@@ -1,7 +1,5 @@
 -- `text::line::fields` meets its contract: each field that was read picks the next case of the model's conditions 3 to 6. Assumes nothing.
 use mathlib.Core.Path.{sym, ap, ◌∙◌}
-use borrow.Author.Rules.{rules}
-use borrow.Author.Tests.{not-true, not-false}
 use Rattle.model.specs.Stored.{parsed}
 use Rattle.text.specs.Fields.{found}
 use Rattle.text.proofs.line.fields.Goals as goal

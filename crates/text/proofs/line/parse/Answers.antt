@@ -1,6 +1,5 @@
 -- `text::line::parse` meets its contract: the parts between the commas are the model's fields. Assumes nothing.
 use mathlib.Core.Path.{sym, ◌∙◌}
-use borrow.Author.Rules.{rules}
 use borrow.Author.Tests.{ne_eqb}
 use lib.Seq.{length-take-le}
 use Rattle.model.proofs.ReadingLaws.{parsed_text_lem}

@@ -1,6 +1,5 @@
 -- `text::line::refusal` meets its contract. Assumes nothing.
 use Rattle.text.specs.Lines.{refusal_of}
-use borrow.Author.Rules.{rules}
 use Rattle.text.proofs.line.refusal.Goals as goal
 
 pub returns-in-Line : goal.returns-in-Line

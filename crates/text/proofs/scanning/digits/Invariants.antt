@@ -1,12 +1,9 @@
 -- `text::scanning::digits` meets its contract: the number so far and what is left of the text are always what stood there. Assumes nothing.
 use Prim.Native.Nat.{◌≤◌, ◌<◌, ◌-◌}
-use mathlib.Core.Path.{◌≡◌, refl}
+use mathlib.Core.Path.{◌≡◌}
 use mathlib.Core.List.{◌++◌}
-use native.Mathlib.Omega.{arith}
-use borrow.Author.Rules.{rules}
 use lib.ListN.{length, drop}
 use Rattle.model.specs.Text.{decimal}
-use Rattle.text.proofs.ScanLaws.{number_there, next_digit}
 use Rattle.text.proofs.scanning.digits.Given as goal
 
 abbrev pub invariant-loop-i : goal.invariant-loop-i

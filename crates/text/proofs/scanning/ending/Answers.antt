@@ -1,6 +1,5 @@
 -- `text::scanning::ending` meets its contract. Assumes nothing.
 use native.Mathlib.Omega.{arith}
-use borrow.Author.Rules.{rules}
 use Rattle.text.proofs.ScanLaws.{ended_none, ended_there}
 use Rattle.text.proofs.scanning.ending.Goals as goal
 

@@ -1,6 +1,5 @@
 -- `text::scanning::listed` meets its contract. Assumes nothing.
 use native.Mathlib.Omega.{arith}
-use borrow.Author.Rules.{rules}
 use Rattle.model.specs.Stored.{operand_of}
 use Rattle.model.specs.Text.{comma, spell_operand}
 use Rattle.text.proofs.ScanLaws.{led}

@@ -1,6 +1,5 @@
 -- `text::scanning::operand` meets its contract: the first byte picks the form. Assumes nothing.
 use native.Mathlib.Omega.{arith}
-use borrow.Author.Rules.{rules}
 use Rattle.text.proofs.OperandLaws.{literal_form, register_form, cell_form, public_form, sensitive_form, table_form}
 use Rattle.text.proofs.ScanLaws.{tagged, signed, none_there}
 use Rattle.text.proofs.scanning.operand.Goals as goal

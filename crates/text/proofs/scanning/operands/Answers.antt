@@ -2,7 +2,6 @@
 use mathlib.Core.Path.{sym, ◌∙◌}
 use mathlib.Core.List.{◌∷◌}
 use native.Mathlib.Omega.{arith}
-use borrow.Author.Rules.{rules}
 use Rattle.model.specs.Stored.{operand_of}
 use Rattle.model.specs.Text.{comma, spell_operand}
 use Rattle.text.proofs.ScanLaws.{stands, ends, all_stand, none_completed}
