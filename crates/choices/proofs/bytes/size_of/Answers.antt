@@ -1,0 +1,21 @@
+-- `choices::bytes::size_of` meets its contract. Assumes nothing.
+use mathlib.Core.Path.{sym, ap}
+use Prim.Native.Nat.{◌*◌}
+use native.Mathlib.Omega.{arith}
+use lib.ListN.{length}
+use Rattle.sets.specs.Walk.{set_width}
+use Rattle.choices.proofs.SetBytes.{values-past, values-few, values_most}
+use borrow.Author.Rules.{rules}
+use Rattle.choices.proofs.bytes.size_of.Goals as goal
+
+pub returns-then-i-ge-STATE_SIZE : goal.returns-then-i-ge-STATE_SIZE
+returns-then-i-ge-STATE_SIZE c = sym (ap length (values-past _ _ c.if-i-ge-STATE_SIZE.true))
+
+pub overflow_cast-n : goal.overflow_cast-n
+overflow_cast-n c = omega (arith, c.shared_slice_known-1.given (set_width * c.args.i))
+
+pub returns-then-n-lt-MAX_VALUES : goal.returns-then-n-lt-MAX_VALUES
+returns-then-n-lt-MAX_VALUES c = values-few _ c.requires _ c.if-i-ge-STATE_SIZE.false c.if-n-lt-MAX_VALUES.true
+
+pub returns-else-n-lt-MAX_VALUES : goal.returns-else-n-lt-MAX_VALUES
+returns-else-n-lt-MAX_VALUES c = values_most _ c.requires _ c.if-i-ge-STATE_SIZE.false c.if-n-lt-MAX_VALUES.false
