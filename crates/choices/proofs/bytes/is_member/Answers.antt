@@ -12,9 +12,6 @@ use Rattle.choices.proofs.bytes.is_member.Goals as goal
 pub bounds-found-0 : goal.bounds-found-0
 bounds-found-0 c = omega (arith, c.requires.0)
 
-pub overflow_cast-n : goal.overflow_cast-n
-overflow_cast-n c = omega (arith, c.shared_slice_known-1.given 0)
-
 pub loop-j-init : goal.loop-j-init
 loop-j-init c = (omega arith, refl)
 

@@ -11,9 +11,6 @@ use Rattle.choices.proofs.bytes.size_of.Goals as goal
 pub returns-then-i-ge-STATE_SIZE : goal.returns-then-i-ge-STATE_SIZE
 returns-then-i-ge-STATE_SIZE c = sym (ap length (values-past _ _ c.if-i-ge-STATE_SIZE.true))
 
-pub overflow_cast-n : goal.overflow_cast-n
-overflow_cast-n c = omega (arith, c.shared_slice_known-1.given (set_width * c.args.i))
-
 pub returns-then-n-lt-MAX_VALUES : goal.returns-then-n-lt-MAX_VALUES
 returns-then-n-lt-MAX_VALUES c = values-few _ c.requires _ c.if-i-ge-STATE_SIZE.false c.if-n-lt-MAX_VALUES.true
 
