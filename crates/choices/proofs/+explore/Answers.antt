@@ -2,16 +2,16 @@
 -- left of the values; the loop's invariant is in proofs/Narrowing. Assumes nothing.
 use mathlib.Core.Path.{◌≡◌, refl, sym, ap, ◌∙◌}
 use mathlib.Core.List.{List}
-use Prim.Native.Nat.{ℕ, suc, ◌+◌, ◌-◌, ◌≤◌, ◌<◌}
+use Prim.Native.Nat.{ℕ, ◌+◌, ◌<◌}
 use native.Mathlib.Omega.{arith}
 use borrow.Author.Tests.{ltb-true, ltb-false}
-use lib.ListN.{length, get_or, drop}
+use lib.ListN.{length, drop}
 use borrow.Author.Rules.{rules}
 use Rattle.sets.specs.Walk.{max_values, set_width, listed, lists_of, values, heads, draw, involved}
 use Rattle.choices.specs.Gathering.{gathered, visited_all, line_by, argument_places}
 use Rattle.choices.proofs.SetBytes.{listed-few}
 use Rattle.choices.proofs.Gathered.{many_stays}
-use Rattle.choices.proofs.Narrowing.{Turned, turned_none, turned-next, turned_all, within, same_size, same_state_size, few-values, read_value, narrowed_state, narrowed_settled}
+use Rattle.choices.proofs.Narrowing.{turned_none, turned-next, turned_all, within, same_size, same_state_size, few-values, read_value, narrowed_state, narrowed_settled}
 use Rattle.choices.proofs.+explore.Goals as goal
 
 pub is_overfull-requires : goal.is_overfull-requires
@@ -50,11 +50,14 @@ returns-then-k-ge-ARGUMENT_PLACES t c =
     let u = c.visit in
     let z : o.result.level ≡ argument_places = omega (arith, o.ensures.most, i2.true) in
     let l = line_by x.line.now in
-    let S = lists_of x.sets.now in record { visited = (
+    let S = lists_of x.sets.now in record {
+      visited = (
         u.ensures.0 ∙ sym (ap (visited_all l x.counter (gathered (listed x.found.now) x.leak x.row.now)) (o.ensures.same ∙ ap (λ (k : ℕ). draw S (drop k (involved l))) z)),
         u.ensures.1,
         u.auto.found ∙ c.told-found,
-      ); unchanged = (refl, refl) }
+      );
+      unchanged = (refl, refl);
+    }
 
 pub overflow_mul-count : goal.overflow_mul-count
 overflow_mul-count t c =

@@ -1,17 +1,11 @@
 -- `choices::explore` meets its contract. The measure of the calls is what is left of the arguments' places, that of the loop what is
 -- left of the values; the loop's invariant is in proofs/Narrowing. Assumes nothing.
-use mathlib.Core.Path.{◌≡◌, refl, sym, ap, ◌∙◌}
-use mathlib.Core.List.{List}
-use Prim.Native.Nat.{ℕ, suc, ◌+◌, ◌-◌, ◌≤◌, ◌<◌}
-use native.Mathlib.Omega.{arith}
-use borrow.Author.Tests.{ltb-true, ltb-false}
-use lib.ListN.{length, get_or, drop}
-use borrow.Author.Rules.{rules}
-use Rattle.sets.specs.Walk.{max_values, set_width, listed, lists_of, values, heads, draw, involved}
-use Rattle.choices.specs.Gathering.{gathered, visited_all, line_by, argument_places}
-use Rattle.choices.proofs.SetBytes.{listed-few}
-use Rattle.choices.proofs.Gathered.{many_stays}
-use Rattle.choices.proofs.Narrowing.{Turned, turned_none, turned-next, turned_all, within, same_size, same_state_size, few-values, read_value, narrowed_state, narrowed_settled}
+use mathlib.Core.Path.{◌≡◌}
+use Prim.Native.Nat.{suc, ◌-◌, ◌≤◌}
+use lib.ListN.{length, get_or}
+use Rattle.sets.specs.Walk.{set_width, listed, lists_of, values}
+use Rattle.choices.specs.Gathering.{gathered, line_by, argument_places}
+use Rattle.choices.proofs.Narrowing.{Turned}
 use Rattle.choices.proofs.+explore.Given as goal
 
 abbrev pub invariant-loop-j : goal.invariant-loop-j

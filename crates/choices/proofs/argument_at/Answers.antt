@@ -1,6 +1,5 @@
 -- `choices::argument_at` meets its contract. Assumes nothing.
 use Rattle.coding.proofs.Tests.{tests}
-use borrow.Author.Rules.{rules}
 use Rattle.choices.proofs.argument_at.Goals as goal
 
 pub returns-then-level-lt2 : goal.returns-then-level-lt2

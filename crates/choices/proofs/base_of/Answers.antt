@@ -6,7 +6,6 @@ use Rattle.model.specs.Limits.{state_size}
 use Rattle.model.specs.Stored.{publics, operand_of}
 use Rattle.model.proofs.Forms.{by_form, public_cell, sensitive_cell, table_cell}
 use Rattle.sets.specs.Walk.{base}
-use borrow.Author.Rules.{rules}
 use Rattle.choices.proofs.base_of.Goals as goal
 
 no-base : (n : ℕ) → n < publics → base (operand_of n) ≡ state_size

@@ -8,7 +8,6 @@ use lib.Seq.{set-get_or}
 use Rattle.sets.specs.Walk.{same_row}
 use Rattle.choices.specs.Gathering.{all_at, alike}
 use Rattle.choices.proofs.Gathered.{same_row_lem}
-use borrow.Author.Rules.{rules}
 use Rattle.choices.proofs.is_alike.Goals as goal
 
 both : (r a b : Bool) → a ≡ true → r ≡ b → r ≡ a && b

@@ -1,13 +1,9 @@
 -- `choices::is_at` meets its contract. The loop's invariant: the old values from j on are at that distance exactly where all are. Assumes nothing.
-use mathlib.Core.Path.{◌≡◌, refl, sym, ap, ◌∙◌}
-use Prim.Native.Nat.{ℕ, ◌-◌, ◌≤◌}
+use mathlib.Core.Path.{refl, sym, ap, ◌∙◌}
+use Prim.Native.Nat.{ℕ}
 use native.Mathlib.Omega.{arith}
-use lib.ListN.{drop}
 use Rattle.model.specs.Step.{distance}
-use Rattle.sets.specs.Walk.{lists_of, values}
-use Rattle.choices.specs.Gathering.{all_at}
 use Rattle.choices.proofs.Turns.{all_over, all_next, one_off}
-use borrow.Author.Rules.{rules}
 use Rattle.choices.proofs.is_at.Goals as goal
 
 pub size_of-n-requires : goal.size_of-n-requires

@@ -1,12 +1,9 @@
 -- `choices::is_same` meets its contract. The loop's invariant: the rows from i on are the same exactly where the rows are. Assumes nothing.
-use mathlib.Core.Path.{◌≡◌, refl, sym, ◌∙◌}
+use mathlib.Core.Path.{◌≡◌}
 use Prim.Native.Nat.{◌-◌, ◌≤◌}
-use native.Mathlib.Omega.{arith}
 use lib.ListN.{drop}
 use Rattle.model.specs.Limits.{row_width}
 use Rattle.sets.specs.Walk.{same_row}
-use Rattle.choices.proofs.Turns.{rows_over, rows_next, rows_not}
-use borrow.Author.Rules.{rules}
 use Rattle.choices.proofs.is_same.Given as goal
 
 abbrev pub invariant-loop-i : goal.invariant-loop-i

@@ -3,7 +3,6 @@ use native.Mathlib.Omega.{arith}
 use Prim.Native.Nat.{◌*◌}
 use lib.ListN.{length-set}
 use Rattle.sets.specs.Walk.{set_width}
-use borrow.Author.Rules.{rules}
 use Rattle.choices.proofs.narrow.Goals as goal
 
 pub bounds-sets-i-2 : goal.bounds-sets-i-2

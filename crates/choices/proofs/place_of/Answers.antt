@@ -10,7 +10,6 @@ use Rattle.model.specs.Places.{State, place}
 use Rattle.model.specs.Stored.{operand_of}
 use Rattle.sets.specs.Walk.{base, involved}
 use Rattle.choices.specs.Gathering.{line_by, argument_places, spot}
-use borrow.Author.Rules.{rules}
 use Rattle.choices.proofs.place_of.Goals as goal
 
 -- the number of the argument

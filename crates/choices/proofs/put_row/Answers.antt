@@ -1,13 +1,9 @@
 -- `choices::put_row` meets its contract. The loop's invariant: the first i numbers stand in the row. Assumes nothing.
-use mathlib.Core.Path.{◌≡◌, refl, ap, ◌∙◌}
-use mathlib.Core.List.{◌++◌}
-use Prim.Native.Nat.{◌+◌, ◌-◌, ◌≤◌}
+use mathlib.Core.Path.{refl, ap, ◌∙◌}
 use native.Mathlib.Omega.{arith}
-use lib.ListN.{length, take, drop}
+use lib.ListN.{length}
 use lib.Seq.{take_all}
-use Rattle.model.specs.Limits.{row_width}
 use Rattle.choices.proofs.SetBytes.{front-next, front_length, front-over}
-use borrow.Author.Rules.{rules}
 use Rattle.choices.proofs.put_row.Goals as goal
 
 pub loop-i-init : goal.loop-i-init

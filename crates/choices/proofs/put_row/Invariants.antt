@@ -1,13 +1,9 @@
 -- `choices::put_row` meets its contract. The loop's invariant: the first i numbers stand in the row. Assumes nothing.
-use mathlib.Core.Path.{◌≡◌, refl, ap, ◌∙◌}
+use mathlib.Core.Path.{◌≡◌}
 use mathlib.Core.List.{◌++◌}
-use Prim.Native.Nat.{◌+◌, ◌-◌, ◌≤◌}
-use native.Mathlib.Omega.{arith}
-use lib.ListN.{length, take, drop}
-use lib.Seq.{take_all}
+use Prim.Native.Nat.{◌-◌, ◌≤◌}
+use lib.ListN.{take, drop}
 use Rattle.model.specs.Limits.{row_width}
-use Rattle.choices.proofs.SetBytes.{front-next, front_length, front-over}
-use borrow.Author.Rules.{rules}
 use Rattle.choices.proofs.put_row.Given as goal
 
 abbrev pub invariant-loop-i : goal.invariant-loop-i

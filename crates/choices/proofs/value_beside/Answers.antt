@@ -1,6 +1,5 @@
 -- `choices::value_beside` meets its contract. Assumes nothing.
 use Rattle.coding.proofs.Tests.{tests}
-use borrow.Author.Rules.{rules}
 use Rattle.choices.proofs.value_beside.Goals as goal
 
 pub returns-then-j-eq0 : goal.returns-then-j-eq0

@@ -9,7 +9,7 @@ use lib.Dec.{eqb, ltb}
 use lib.ListN.{length, get_or, drop}
 use Rattle.model.specs.declared.Line.{Line}
 use Rattle.model.specs.Limits.{state_size, row_width}
-use Rattle.model.specs.Places.{State, place}
+use Rattle.model.specs.Places.{State}
 use Rattle.model.specs.Step.{row, distances, result}
 use Rattle.model.specs.Stored.{line_of}
 use Rattle.machine.specs.declared.Effect.{Effect}
@@ -19,7 +19,6 @@ use Rattle.choices.specs.Gathering.{Gathered, gathered, first_row, noted, visite
 use Rattle.sets.proofs.Reports.{lists_length}
 use Rattle.choices.proofs.SetBytes.{listed-few}
 use Rattle.choices.proofs.Exploring.{left-visited}
-use borrow.Author.Rules.{rules}
 use Rattle.choices.proofs.visit.Goals as goal
 
 -- the effect of a line turns neither on its target nor on how the state is given

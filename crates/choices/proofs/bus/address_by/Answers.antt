@@ -5,7 +5,6 @@ use native.Mathlib.Omega.{arith}
 use Rattle.model.specs.Stored.{cells, operand_of}
 use Rattle.model.proofs.Forms.{by_form, cell, public_cell, sensitive_cell, table_cell}
 use Rattle.sets.specs.Addresses.{address_by}
-use borrow.Author.Rules.{rules}
 use Rattle.choices.proofs.bus.address_by.Goals as goal
 
 none : (n v : ℕ) → n < cells → address_by (operand_of n) v ≡ 0

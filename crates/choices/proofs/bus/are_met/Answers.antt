@@ -3,9 +3,9 @@
 use mathlib.Core.Path.{◌≡◌, refl, sym, ap, ap₂, ◌∙◌}
 use mathlib.Core.Bool.{Bool, true, false}
 use mathlib.Core.List.{List, [], ◌∷◌}
-use Prim.Native.Nat.{ℕ, ◌+◌, ◌-◌, ◌≤◌, ◌<◌}
+use Prim.Native.Nat.{ℕ, ◌+◌, ◌≤◌, ◌<◌}
 use native.Mathlib.Omega.{arith}
-use borrow.Author.Tests.{not-true, not-false, eq-eqb}
+use borrow.Author.Tests.{eq-eqb}
 use lib.Dec.{ltb, ltb→lt}
 use lib.ListN.{length, get_or, drop, length-map}
 use Rattle.model.specs.declared.Operand.{Operand}
@@ -18,7 +18,6 @@ use Rattle.choices.specs.Gathering.{all_at}
 use Rattle.choices.specs.Bus.{all_met, met_by}
 use Rattle.choices.proofs.SetBytes.{listed-few, listed_at, map_at_lem}
 use Rattle.choices.proofs.Turns.{met_over, met_next, not_met}
-use borrow.Author.Rules.{rules}
 use Rattle.choices.proofs.bus.are_met.Goals as goal
 
 -- address number j

@@ -1,14 +1,11 @@
 -- `choices::bus::is_apart` meets its contract. The loop's invariant: the values from j on are at that distance exactly where all are. Assumes nothing.
-use mathlib.Core.Path.{◌≡◌, refl, sym, ap, ◌∙◌}
-use Prim.Native.Nat.{ℕ, ◌-◌, ◌≤◌}
+use mathlib.Core.Path.{refl, sym, ap, ◌∙◌}
+use Prim.Native.Nat.{ℕ}
 use native.Mathlib.Omega.{arith}
-use lib.ListN.{get_or, drop}
 use Rattle.model.specs.Step.{distance}
 use Rattle.sets.specs.Walk.{max_values, listed}
-use Rattle.choices.specs.Gathering.{all_at}
 use Rattle.choices.proofs.SetBytes.{listed-few, listed_at}
 use Rattle.choices.proofs.Turns.{all_over, all_next, one_off}
-use borrow.Author.Rules.{rules}
 use Rattle.choices.proofs.bus.is_apart.Goals as goal
 
 pub bounds-bus-0 : goal.bounds-bus-0

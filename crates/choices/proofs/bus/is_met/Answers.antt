@@ -10,7 +10,6 @@ use Rattle.sets.specs.Walk.{Sets, listed, lists_of}
 use Rattle.sets.specs.Addresses.{reached, first_addressed}
 use Rattle.choices.specs.Gathering.{line_by}
 use Rattle.choices.specs.Bus.{met_by, meets}
-use borrow.Author.Rules.{rules}
 use Rattle.choices.proofs.bus.is_met.Goals as goal
 
 module _ (S : Sets) (bus : List ℕ) (l : Line) (n : ℕ) (e : operand_of n ≡ first_addressed l) where

@@ -9,7 +9,6 @@ use Rattle.model.specs.Stored.{operand_of}
 use Rattle.sets.specs.Walk.{Sets, lists_of}
 use Rattle.sets.specs.Addresses.{reached, last_addressed, leads}
 use Rattle.choices.specs.Gathering.{line_by}
-use borrow.Author.Rules.{rules}
 use Rattle.choices.proofs.bus.lead.Goals as goal
 
 module _ (S : Sets) (bus : List ℕ) (l : Line) (n : ℕ) (e : operand_of n ≡ last_addressed l) where

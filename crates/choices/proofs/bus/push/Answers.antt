@@ -8,7 +8,6 @@ use lib.ListN.{length, get_or, set, length-set}
 use lib.Seq.{get_or-set_same}
 use Rattle.sets.specs.Walk.{set_width, max_values, listed}
 use Rattle.choices.proofs.SetBytes.{listed_new}
-use borrow.Author.Rules.{rules}
 use Rattle.choices.proofs.bus.push.Goals as goal
 
 one-behind : (u : List ℕ) (x : ℕ) → length u ≡ set_width → get_or u 0 0 < max_values

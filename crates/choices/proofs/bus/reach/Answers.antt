@@ -1,7 +1,7 @@
 -- `choices::bus::reach` meets its contract. The loop's invariant: the bus lists the addresses of the first j values. Assumes nothing.
 use mathlib.Core.Path.{◌≡◌, refl, sym, ap, ◌∙◌}
 use mathlib.Core.List.{List, [], ◌∷◌, ◌++◌, map, map-append}
-use Prim.Native.Nat.{ℕ, ◌+◌, ◌*◌, ◌-◌, ◌≤◌, ◌<◌}
+use Prim.Native.Nat.{ℕ, ◌+◌, ◌*◌, ◌≤◌, ◌<◌}
 use native.Mathlib.Numerals.{add-one}
 use native.Mathlib.Omega.{arith}
 use lib.ListN.{length, get_or, set, take, length-set}
@@ -12,7 +12,6 @@ use Rattle.model.specs.Stored.{operand_of}
 use Rattle.sets.specs.Walk.{set_width, max_values, listed, lists_of, values}
 use Rattle.sets.specs.Addresses.{address_by, reached}
 use Rattle.choices.proofs.SetBytes.{values-past, values_le}
-use borrow.Author.Rules.{rules}
 use Rattle.choices.proofs.bus.reach.Goals as goal
 
 emptied : (b : List ℕ) → 0 < length b → listed (set b 0 0) ≡ []
@@ -29,7 +28,7 @@ abbrev reached-at : List ℕ → ℕ → ℕ → List ℕ
 reached-at b n i = map (address_by (operand_of n)) (values (lists_of b) i)
 
 pub loop-j-init : goal.loop-j-init
-loop-j-init c =     (omega arith, length-set c.args.bus.now 0 0 ∙ c.requires.1, get_or-set_same c.args.bus.now 0 0 0 (omega (arith, c.requires.1)), emptied c.args.bus.now (omega (arith, c.requires.1)))
+loop-j-init c = (omega arith, length-set c.args.bus.now 0 0 ∙ c.requires.1, get_or-set_same c.args.bus.now 0 0 0 (omega (arith, c.requires.1)), emptied c.args.bus.now (omega (arith, c.requires.1)))
 
 pub value_of-requires : goal.value_of-requires
 value_of-requires c = (c.requires.0, omega (arith, c.size_of-n.ensures))

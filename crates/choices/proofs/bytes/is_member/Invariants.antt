@@ -1,12 +1,8 @@
 -- `choices::bytes::is_member` meets its contract. The loop's invariant: x is among the values from j on exactly where it is among all. Assumes nothing.
-use mathlib.Core.Path.{◌≡◌, refl, sym, ◌∙◌}
+use mathlib.Core.Path.{◌≡◌}
 use Prim.Native.Nat.{◌-◌, ◌≤◌}
-use native.Mathlib.Omega.{arith}
 use lib.ListN.{get_or, drop}
-use Rattle.sets.specs.Walk.{set_width, listed, member}
-use Rattle.choices.proofs.SetBytes.{listed-few, listed_at}
-use Rattle.choices.proofs.Turns.{none_over, none_next, one_there}
-use borrow.Author.Rules.{rules}
+use Rattle.sets.specs.Walk.{listed, member}
 use Rattle.choices.proofs.bytes.is_member.Given as goal
 
 abbrev pub invariant-loop-j : goal.invariant-loop-j

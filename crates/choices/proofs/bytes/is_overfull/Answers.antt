@@ -4,7 +4,6 @@ use Prim.Native.Nat.{ℕ}
 use lib.Dec.{ltb}
 use Rattle.sets.specs.Walk.{max_values, set_width}
 use Rattle.choices.proofs.SetBytes.{listed-few}
-use borrow.Author.Rules.{rules}
 use Rattle.choices.proofs.bytes.is_overfull.Goals as goal
 
 pub returns : goal.returns

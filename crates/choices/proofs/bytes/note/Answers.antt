@@ -8,7 +8,6 @@ use lib.ListN.{length, get_or, set, length-set}
 use lib.Seq.{get_or-set_same}
 use Rattle.sets.specs.Walk.{set_width, max_values, listed, member, insert}
 use Rattle.choices.proofs.SetBytes.{listed_new}
-use borrow.Author.Rules.{rules}
 use Rattle.choices.proofs.bytes.note.Goals as goal
 
 old : (x : ℕ) (xs : List ℕ) → member x xs ≡ true → xs ≡ insert xs x

@@ -1,13 +1,12 @@
 -- `choices::bytes::put_set` meets its contract. The loop's invariant: the first j bytes stand at the place, the bytes of the others are as they were. Assumes nothing.
 use mathlib.Core.Path.{◌≡◌, refl, ap, ◌∙◌}
-use mathlib.Core.List.{List, ◌++◌}
-use Prim.Native.Nat.{ℕ, ◌+◌, ◌*◌, ◌-◌, ◌≤◌, ◌<◌}
+use mathlib.Core.List.{List}
+use Prim.Native.Nat.{ℕ, ◌+◌, ◌*◌, ◌≤◌, ◌<◌}
 use native.Mathlib.Omega.{arith}
-use lib.ListN.{length, get_or, set, take, drop, length-set}
+use lib.ListN.{length, get_or, set, take, length-set}
 use Rattle.model.specs.Limits.{state_size}
 use Rattle.sets.specs.Walk.{set_width, listed, lists_of}
 use Rattle.choices.proofs.SetBytes.{Put, block, block-length, block_same, block_other, lists_set, lists_kept, front-next, front-over}
-use borrow.Author.Rules.{rules}
 use Rattle.choices.proofs.bytes.put_set.Goals as goal
 
 module _ (b : List ℕ) (i : ℕ) (new b' : List ℕ) (j : ℕ) (l : length b ≡ set_width * state_size) (r : set_width ≤ length new) (h : i < state_size) (P : Put b i new b' j) where

@@ -1,11 +1,7 @@
 -- `choices::bytes::size_of` meets its contract. Assumes nothing.
 use mathlib.Core.Path.{sym, ap}
-use Prim.Native.Nat.{◌*◌}
-use native.Mathlib.Omega.{arith}
 use lib.ListN.{length}
-use Rattle.sets.specs.Walk.{set_width}
 use Rattle.choices.proofs.SetBytes.{values-past, values-few, values_most}
-use borrow.Author.Rules.{rules}
 use Rattle.choices.proofs.bytes.size_of.Goals as goal
 
 pub returns-then-i-ge-STATE_SIZE : goal.returns-then-i-ge-STATE_SIZE

@@ -5,7 +5,6 @@ use Prim.Native.Nat.{ℕ, ◌<◌}
 use native.Mathlib.Omega.{arith}
 use lib.ListN.{length, get_or}
 use Rattle.choices.proofs.SetBytes.{values-past, values_le, value_at}
-use borrow.Author.Rules.{rules}
 use Rattle.choices.proofs.bytes.value_of.Goals as goal
 
 only_zero : (xs : List ℕ) (j : ℕ) → xs ≡ 0 ∷ [] → j < length xs → 0 ≡ get_or xs j 0
