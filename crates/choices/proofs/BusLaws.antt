@@ -76,6 +76,7 @@ module _ (d : ℕ) where
 
   at_each : (x : ℕ) (bus : List ℕ) → T (all_at d x bus) → (b : ℕ) → In b bus → distance b x ≡ d
   unfolding all_at
+  at_each x [] t b m = absurd m
   at_each x (c ∷ bus) t b (inl e) = rw e (sym (eqb_so d (distance c x) (and_both (eqb d (distance c x)) (all_at d x bus) t).0))
   at_each x (c ∷ bus) t b (inr m) = at_each x bus (and_both (eqb d (distance c x)) (all_at d x bus) t).1 b m
 
@@ -86,6 +87,7 @@ module _ (d : ℕ) where
 
   met_each : (bus xs : List ℕ) → T (all_met d bus xs) → (x : ℕ) → In x xs → (b : ℕ) → In b bus → distance b x ≡ d
   unfolding all_met
+  met_each bus [] t x n b m = absurd n
   met_each bus (y ∷ xs) t x (inl e) b m = rw e (at_each y bus (and_both (all_at d y bus) (all_met d bus xs) t).0 b m)
   met_each bus (y ∷ xs) t x (inr n) b m = met_each bus xs (and_both (all_at d y bus) (all_met d bus xs) t).1 x n b m
 

@@ -325,3 +325,11 @@ module _ (S : Sets) (l : Line) (k : ℕ) (Z : Settled S l argument_places) (long
           (all_same l k (result l s) (set s q (get_or s q 0)) (map (set s q) c.0) g (writes (get_or s q 0 ∷ c.0) w)
           ∙ ap (λ (p : Row). noted g (result l s) (all_show l k p 0 (map (set s q) (get_or s q 0 ∷ c.0))) p) own
           ∙ ap (λ (b : Bool). noted g (result l s) b r) (alike_show l k (set s q) (result l s) (row l k s 0) row_long r h (get_or s q 0) c.0 (λ v m. old v (w v m))))
+
+-- ---- what the search for the next open place keeps true: the places from number `level` up to k have one value each
+
+pub record NoneOpen (S : Sets) (l : Line) (level k : ℕ) : Type 0 where
+  pub least : level ≤ k
+  pub most : k ≤ argument_places
+  pub same : draw S (drop level (involved l)) ≡ draw S (drop k (involved l))
+  pub settled : Settled S l k

@@ -177,3 +177,11 @@ pub map_at_lem : (f : ℕ → ℕ) (xs : List ℕ) (j : ℕ) → j < length xs �
 map_at_lem f [] j h = absurd (omega arith)
 map_at_lem f (x ∷ xs) zero h = refl
 map_at_lem f (x ∷ xs) (suc j) h = map_at_lem f xs j (omega arith)
+
+-- ---- the bytes of place i written over, the first j of them so far
+
+pub record Put (b : List ℕ) (i : ℕ) (new b' : List ℕ) (j : ℕ) : Type 0 where
+  pub most : j ≤ set_width
+  pub long : length b' ≡ length b
+  pub here : block b' i ≡ take j new ++ drop j (block b i)
+  pub others : (m : ℕ) → (m ≡ i → ⊥) → block b' m ≡ block b m

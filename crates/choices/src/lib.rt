@@ -233,8 +233,8 @@ pub fn explore(
     weights: &[u16; PLACES],
 ) -> bool
     requires { (level ≤ argument_places) × (state.old ≡ heads (lists_of sets.old)) × (get_or found.old 0 0 ≤ set_width) × Settled (lists_of sets.old) (line_by line.now) level × Weights weights.now }
-    ensures row_after { (gathered (listed found.new) result row.new ≡ visited_all (line_by line.now) counter (gathered (listed found.old) leak row.old) (draw (lists_of sets.old) (drop level (involved (line_by line.now))))) × (get_or found.new 0 0 ≤ set_width) × (length found.new ≡ suc set_width) }
-    ensures sets_unchanged { (sets.new ≡ sets.old) × (state.new ≡ state.old) }
+    ensures visited { (gathered (listed found.new) result row.new ≡ visited_all (line_by line.now) counter (gathered (listed found.old) leak row.old) (draw (lists_of sets.old) (drop level (involved (line_by line.now))))) × (get_or found.new 0 0 ≤ set_width) × (length found.new ≡ suc set_width) }
+    ensures unchanged { (sets.new ≡ sets.old) × (state.new ≡ state.old) }
 {
     if is_overfull(found) {
         return leak;
