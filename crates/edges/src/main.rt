@@ -15,6 +15,7 @@ use crate::notation::{
 };
 use model::{Answer, LINE_WIDTH, MAX_LINES, ROW_WIDTH, STATE_SIZE};
 use published::Converted;
+use std::io::{self, Read, Write};
 
 mod notation;
 
@@ -358,26 +359,27 @@ fn comes_out(line: &[u8]) -> bool {
 }
 
 // Runs a case, and prints how it came out and its name. A line with no call is a remark.
-fn tell(line: &[u8]) {
+fn tell(out: &mut impl Write, line: &[u8]) -> io::Result<()> {
     if field(line, CALL).len() == 0 {
-        return;
+        return Ok(());
     }
     if comes_out(line) {
-        io::write_all(1, b"ok    ");
+        out.write_all(b"ok    ")?;
     } else {
-        io::write_all(1, b"WRONG ");
+        out.write_all(b"WRONG ")?;
     }
-    io::write_all(1, field(line, NAME));
-    io::write_all(1, b"\n");
+    out.write_all(field(line, NAME))?;
+    out.write_all(b"\n")
 }
 
-fn tell_all(lines: &[u8]) {
+fn tell_all(out: &mut impl Write, lines: &[u8]) -> io::Result<()> {
     let mut rest = lines;
     while 0 < rest.len() {
-        tell(head(rest, 0));
+        tell(out, head(rest, 0))?;
         let next = tail(rest, 0);
         rest = next;
     }
+    Ok(())
 }
 
 // The byte that one of the file stands for. A case is one line with newlines in it, so the end of a line becomes 0.
@@ -398,9 +400,12 @@ fn decode(bytes: &mut [u8]) {
     }
 }
 
-fn main() {
+fn main(rt: HostRuntime) -> io::Result<()> {
     let mut input = [0u8; INPUT_ROOM];
-    let n = io::read_full(0, &mut input);
+    let n = io::copy(
+        &mut rt.stdin().take(INPUT_ROOM as u64),
+        &mut &mut input[..],
+    )?;
     decode(&mut input);
-    tell_all(&input[0..n]);
+    tell_all(&mut rt.stdout(), &input[0..INPUT_ROOM.min(n as usize)])
 }

@@ -31,17 +31,26 @@ const SET_WIDTH: usize = SETS_SIZE / STATE_SIZE;
 
 // ---- fields and numbers
 
+// Where the first mark stands, or how many bytes there are where there is none.
+fn find(bytes: &[u8], mark: u8) -> usize
+    ensures { result ≤ length bytes.now }
+{
+    bytes
+        .iter()
+        .position(|byte| *byte == mark)
+        .unwrap_or(bytes.len())
+}
+
 // What stands before the first mark, or all where there is none.
 pub(super) fn head(bytes: &[u8], mark: u8) -> &[u8] {
-    let end = bytes::scan::find(bytes, 0, bytes.len(), mark);
-    &bytes[0..end]
+    &bytes[0..find(bytes, mark)]
 }
 
 // What stands after the first mark, or nothing where there is none.
 pub(super) fn tail(bytes: &[u8], mark: u8) -> &[u8]
     ensures { length result.now ≤ length bytes.now - 1 }
 {
-    let end = bytes::scan::find(bytes, 0, bytes.len(), mark);
+    let end = find(bytes, mark);
     if end < bytes.len() {
         let next = end + 1;
         &bytes[next..]
@@ -381,7 +390,7 @@ fn is_told(told: Told, expected: &[u8]) -> bool {
 pub(super) fn is_text(line: &[u8], bytes: &[u8]) -> bool {
     let text = field(line, TEXT);
     let end = text.len();
-    end <= bytes.len() && check::same(&bytes[0..end], text)
+    end <= bytes.len() && &bytes[0..end] == text
 }
 
 // Whether a call gave the answer of its case, and left what the case says.

@@ -7,6 +7,7 @@ ghost use Rattle.std.specs.Prelude.{◌≡◌, ◌+◌, length};
 ghost use Rattle.filters.specs.Filters.{filter_size, sent_bytes};
 
 use model::Answer;
+use std::io::{self, Read, Write};
 
 // Room for one byte more than the program reads, so that a longer input is told.
 const INPUT_ROOM: usize = filters::INPUT_SIZE + 1;
@@ -26,15 +27,18 @@ fn output_room() -> [u8; OUTPUT_ROOM]
     [0u8; OUTPUT_ROOM]
 }
 
-fn main() {
+fn main(rt: HostRuntime) -> io::Result<()> {
     let mut input = input_room();
-    let n = io::read_full(0, &mut input);
+    let n = io::copy(
+        &mut rt.stdin().take(INPUT_ROOM as u64),
+        &mut &mut input[..],
+    )?;
     let mut output = output_room();
-    let answer = filters::print_sent(&input[..n], &mut output);
+    let answer = filters::print_sent(&input[..INPUT_ROOM.min(n as usize)], &mut output);
     // The room is enough for every text (proofs/FilterLaws of filters), so 17 is never answered.
     let Answer::Count(size) = answer else {
-        return;
+        return Ok(());
     };
     let end = size as usize;
-    io::write_all(1, &output[..end]);
+    rt.stdout().write_all(&output[..end])
 }
