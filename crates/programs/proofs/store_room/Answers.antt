@@ -3,11 +3,7 @@ use Prim.Native.Nat.{ℕ, ◌*◌}
 use lib.ListN.{length-replicate}
 use Rattle.model.specs.Limits.{line_width}
 use Rattle.model.specs.Programs.{input_size}
-use Rattle.programs.proofs.store_room.Statement.{statement}
-use Rattle.programs.proofs.store_room.Tie as tie
+use Rattle.programs.proofs.store_room.Goals as goal
 
-returns : tie.Need-returns
+pub returns : goal.returns
 returns c = length-replicate {A = ℕ} (line_width * input_size) 0
-
-pub store-room-spec : {M : Type 1} → statement M
-store-room-spec = tie.close (tie.spec returns)

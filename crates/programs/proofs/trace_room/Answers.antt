@@ -3,11 +3,7 @@ use Prim.Native.Nat.{ℕ, ◌*◌}
 use lib.ListN.{length-replicate}
 use Rattle.model.specs.Limits.{row_width}
 use Rattle.model.specs.Programs.{trace_budget}
-use Rattle.programs.proofs.trace_room.Statement.{statement}
-use Rattle.programs.proofs.trace_room.Tie as tie
+use Rattle.programs.proofs.trace_room.Goals as goal
 
-returns : tie.Need-returns
+pub returns : goal.returns
 returns c = length-replicate {A = ℕ} (row_width * trace_budget) 0
-
-pub trace-room-spec : {M : Type 1} → statement M
-trace-room-spec = tie.close (tie.spec returns)
