@@ -3,14 +3,13 @@ use Prim.Native.Nat.{◌*◌}
 use lib.Seq.{length-take-le}
 use mathlib.Core.Path.{sym}
 use Rattle.published.proofs.LongTexts.{not_read, send_refused, store_front, send_done}
-use borrow.Author.Rules.{rules}
 use Rattle.published.proofs.send_out.Goals as goal
 
 pub refuse-requires : goal.refuse-requires
-refuse-requires c = not_read c.args.text.now _ _ c.read-got.result c.store_room-store.ensures c.read-got.ensures c.in_default.in_default-own.keys2
+refuse-requires c = not_read c.args.text.now _ _ c.read-got.result c.store_room-store.ensures c.read-got.ensures c.in_default.not-Count
 
 pub returns-in_default : goal.returns-in_default
-returns-in_default c = send_refused c.args.text.now c.args.out.now _ (not_read c.args.text.now _ _ c.read-got.result c.store_room-store.ensures c.read-got.ensures c.in_default.in_default-own.keys2) c.refuse.ensures
+returns-in_default c = send_refused c.args.text.now c.args.out.now _ (not_read c.args.text.now _ _ c.read-got.result c.store_room-store.ensures c.read-got.ensures c.in_default.not-Count) c.refuse.ensures
 
 pub slice_bounds-store-end : goal.slice_bounds-store-end
 slice_bounds-store-end c = store_front c.args.text.now _ _ c.read-got.result _ c.in-Count.is c.read-got.ensures

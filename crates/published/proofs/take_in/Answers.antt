@@ -7,7 +7,6 @@ use Rattle.published.specs.Published.{conversion}
 use Rattle.published.proofs.RoundTrip.{few-taken}
 use Rattle.published.proofs.TakeLaws.{take_refused, take_done}
 use Rattle.published.proofs.CollectLaws.{none_linked}
-use borrow.Author.Rules.{rules}
 use Rattle.published.proofs.take_in.Goals as goal
 
 pub collect-seen-requires : goal.collect-seen-requires
@@ -20,10 +19,10 @@ pub overflow_mul-end : goal.overflow_mul-end
 overflow_mul-end c = omega (arith, few-taken c.args.text.now _ (sym c.convert-got.ensures.answer ∙ ap conversion c.in-Count.is))
 
 pub slice_bounds-store-end : goal.slice_bounds-store-end
-slice_bounds-store-end c = omega (arith, few-taken c.args.text.now _ (sym c.convert-got.ensures.answer ∙ ap conversion c.in-Count.is), c.convert-got.auto.1.1.1.1.0, c.store_room-store.ensures)
+slice_bounds-store-end c = omega (arith, few-taken c.args.text.now _ (sym c.convert-got.ensures.answer ∙ ap conversion c.in-Count.is), c.convert-got.auto.store, c.store_room-store.ensures)
 
 pub slice_bounds-write-end : goal.slice_bounds-write-end
-slice_bounds-write-end c = sym (length-take-le (6 * c.in-Count.n) _ (omega (arith, few-taken c.args.text.now _ (sym c.convert-got.ensures.answer ∙ ap conversion c.in-Count.is), c.convert-got.auto.1.1.1.1.0, c.store_room-store.ensures)))
+slice_bounds-write-end c = sym (length-take-le (6 * c.in-Count.n) _ (omega (arith, few-taken c.args.text.now _ (sym c.convert-got.ensures.answer ∙ ap conversion c.in-Count.is), c.convert-got.auto.store, c.store_room-store.ensures)))
 
 pub returns : goal.returns
 returns c =

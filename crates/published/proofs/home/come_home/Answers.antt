@@ -6,7 +6,6 @@ use lib.ListN.{take}
 use native.Mathlib.Omega.{arith}
 use Rattle.published.specs.Published.{take_in_outcome, conversion}
 use Rattle.published.proofs.HomeCalls.{sent_bytes_lem, home_claim}
-use borrow.Author.Rules.{rules}
 use Rattle.published.proofs.home.come_home.Goals as goal
 
 pub slice_bounds-take_in-end : goal.slice_bounds-take_in-end
@@ -19,5 +18,5 @@ pub returns : goal.returns
 returns c =
     let a = c.args in
     let e = c.send_out-sent.ensures in
-    let f = c.take_in-taken.ensures ∙ ap (λ (n : ℕ). take_in_outcome (take n c.send_out-sent.new.1.0) a.home.now) c.bytes-n.ensures in
-    (e, (f, home_claim a.text.now a.published.now _ (conversion c.send_out-sent.result) a.home.now _ (conversion c.take_in-taken.result) e f))
+    let f = c.take_in-taken.ensures ∙ ap (λ (n : ℕ). take_in_outcome (take n c.send_out-sent.new.out) a.home.now) c.bytes-n.ensures in
+    record { published_after = e; home_after = f; home_calls = home_claim a.text.now a.published.now _ (conversion c.send_out-sent.result) a.home.now _ (conversion c.take_in-taken.result) e f }

@@ -4,7 +4,6 @@ use lib.Seq.{length-take-le}
 use native.Mathlib.Omega.{arith}
 use Rattle.published.specs.Table.{entries}
 use Rattle.published.proofs.WordLaws.{wrong_none, right_none, wrong_jump, right_jump, wrong_two, right_two, wrong_three, right-three, right_branch}
-use borrow.Author.Rules.{rules}
 use Rattle.published.proofs.instructions.filled.Goals as goal
 
 pub returns-then-count-ne0 : goal.returns-then-count-ne0

@@ -2,7 +2,6 @@
 use Rattle.published.specs.Published.{bit}
 use Rattle.model.specs.Places.{is_sensitive}
 use mathlib.Core.Path.{sym, ap, ◌∙◌}
-use borrow.Author.Rules.{rules}
 use Rattle.published.proofs.instructions.mark_for.Goals as goal
 
 pub returns-then-is_sensitive : goal.returns-then-is_sensitive

@@ -5,7 +5,6 @@ use Rattle.model.specs.Marks.{mark_fault}
 use mathlib.Core.Path.{sym, ap, ◌∙◌}
 use Rattle.text.specs.Fields.{found}
 use Rattle.published.proofs.InstructionLaws.{no_place, no_first, no_second, marks_fail, marks_pass}
-use borrow.Author.Rules.{rules}
 use Rattle.published.proofs.instructions.operands.Goals as goal
 
 pub returns-in_default : goal.returns-in_default

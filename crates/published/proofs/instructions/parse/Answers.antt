@@ -1,5 +1,4 @@
 -- `published::instructions::parse` meets its contract: the opcode, then its parts. Assumes nothing.
-use borrow.Author.Rules.{rules}
 use mathlib.Core.Path.{sym, ap, ◌∙◌}
 use Prim.Native.Nat.{ℕ}
 use mathlib.Core.List.{List}

@@ -1,12 +1,10 @@
 -- `published::instructions::targeted` meets its contract: by what looking the name up finds. Assumes nothing.
 use mathlib.Core.Path.{sym, ap, ◌∙◌}
 use mathlib.Core.List.{[]}
-use borrow.Author.Tests.{not-true, not-false}
 use Rattle.published.specs.Table.{found_line, entries}
 use Rattle.published.specs.Published.{operands_parsed}
 use Rattle.published.proofs.SeenLaws.{low-find}
 use Rattle.published.proofs.InstructionLaws.{target_bad, target_missing, target_found}
-use borrow.Author.Rules.{rules}
 use Rattle.published.proofs.instructions.targeted.Goals as goal
 
 pub returns-then-not-all_alphanumeric : goal.returns-then-not-all_alphanumeric

@@ -3,11 +3,9 @@ use lib.ListN.{set, length-set}
 use Prim.Native.Nat.{◌+◌, ◌*◌}
 use mathlib.Core.Path.{sym, ap, ◌∙◌}
 use native.Mathlib.Omega.{arith}
-use borrow.Author.Tests.{not-true, not-false}
 use Rattle.published.specs.Table.{bucket_of, entries}
 use Rattle.published.specs.Published.{is_within}
 use Rattle.published.proofs.TableLaws.{not_added, room_more, added}
-use borrow.Author.Rules.{rules}
 use Rattle.published.proofs.labels.add_label.Goals as goal
 
 pub returns-then-not-is_within : goal.returns-then-not-is_within

@@ -1,9 +1,8 @@
 -- `published::labels::all_alphanumeric` meets its contract. Assumes nothing.
-use mathlib.Core.Path.{◌≡◌, refl, sym, ap, ◌∙◌}
-use Prim.Native.Nat.{◌-◌, ◌+◌}
+use mathlib.Core.Path.{refl, sym, ap, ◌∙◌}
+use Prim.Native.Nat.{◌+◌}
 use mathlib.Core.Bool.{Bool, ◌&&◌}
-use lib.ListN.{length, drop}
-use borrow.Author.Rules.{rules}
+use lib.ListN.{drop}
 use Rattle.published.specs.Published.{all_alphanumeric}
 use Rattle.published.proofs.ReadingLaws.{letters_more, letters_none}
 use Rattle.text.proofs.FieldLaws.{and_true}

@@ -1,12 +1,9 @@
 -- `published::labels::all_alphanumeric` meets its contract. Assumes nothing.
-use mathlib.Core.Path.{◌≡◌, refl, sym, ap, ◌∙◌}
-use Prim.Native.Nat.{◌-◌, ◌+◌}
-use mathlib.Core.Bool.{Bool, ◌&&◌}
+use mathlib.Core.Path.{◌≡◌}
+use Prim.Native.Nat.{◌-◌}
+use mathlib.Core.Bool.{◌&&◌}
 use lib.ListN.{length, drop}
-use borrow.Author.Rules.{rules}
 use Rattle.published.specs.Published.{all_alphanumeric}
-use Rattle.published.proofs.ReadingLaws.{letters_more, letters_none}
-use Rattle.text.proofs.FieldLaws.{and_true}
 use Rattle.published.proofs.labels.all_alphanumeric.Given as goal
 
 abbrev pub invariant-loop-i : goal.invariant-loop-i

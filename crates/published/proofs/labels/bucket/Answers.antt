@@ -1,8 +1,7 @@
 -- `published::labels::bucket` meets its contract: the number of the bytes so far, and the bytes left. Assumes nothing.
-use mathlib.Core.Path.{◌≡◌, sym, ap, ◌∙◌}
-use Prim.Native.Nat.{ℕ, ◌+◌, ◌-◌, ◌<◌}
-use lib.ListN.{length, drop}
-use borrow.Author.Rules.{rules}
+use mathlib.Core.Path.{sym, ap, ◌∙◌}
+use Prim.Native.Nat.{ℕ, ◌+◌}
+use lib.ListN.{drop}
 use native.Mathlib.Omega.{arith}
 use Rattle.published.specs.Table.{hash_from}
 use Rattle.published.proofs.TableLaws.{hash_more, bucket_is}

@@ -1,11 +1,8 @@
 -- `published::labels::bucket` meets its contract: the number of the bytes so far, and the bytes left. Assumes nothing.
-use mathlib.Core.Path.{◌≡◌, sym, ap, ◌∙◌}
-use Prim.Native.Nat.{ℕ, ◌+◌, ◌-◌, ◌<◌}
+use mathlib.Core.Path.{◌≡◌}
+use Prim.Native.Nat.{◌-◌, ◌<◌}
 use lib.ListN.{length, drop}
-use borrow.Author.Rules.{rules}
-use native.Mathlib.Omega.{arith}
 use Rattle.published.specs.Table.{hash_from}
-use Rattle.published.proofs.TableLaws.{hash_more, bucket_is}
 use Rattle.published.proofs.labels.bucket.Given as goal
 
 abbrev pub invariant-loop-i : goal.invariant-loop-i

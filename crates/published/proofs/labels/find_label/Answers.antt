@@ -2,10 +2,9 @@
 use mathlib.Core.Path.{sym, ap, ◌∙◌}
 use Prim.Native.Nat.{ℕ, ◌-◌}
 use mathlib.Core.List.{List}
-use borrow.Author.Rules.{rules}
 use native.Mathlib.Omega.{arith}
 use Rattle.model.specs.Text.{same_bytes}
-use Rattle.published.proofs.TableLaws.{Sought, sought_first, sought_there, sought_next, sought_less, sought_none, entry_name}
+use Rattle.published.proofs.TableLaws.{sought_first, sought_there, sought_next, sought_less, sought_none, entry_name}
 use Rattle.published.proofs.labels.find_label.Goals as goal
 
 pub bounds-heads-h : goal.bounds-heads-h

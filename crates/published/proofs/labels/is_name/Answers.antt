@@ -3,7 +3,6 @@ use Rattle.published.specs.Published.{is_name}
 use borrow.Author.Tests.{lt-ltb, le-ltb, le-leb, lt-leb}
 use lib.ListN.{length}
 use native.Mathlib.Omega.{arith}
-use borrow.Author.Rules.{rules}
 use Rattle.published.proofs.labels.is_name.Goals as goal
 
 pub returns-then-s-eq0 : goal.returns-then-s-eq0

@@ -1,11 +1,7 @@
 -- `published::labels::is_same` meets its contract. Assumes nothing.
-use mathlib.Core.Path.{◌≡◌, refl, sym, ap, ◌∙◌}
-use Prim.Native.Nat.{◌-◌}
+use mathlib.Core.Path.{refl, sym, ap, ◌∙◌}
 use mathlib.Core.Bool.{Bool, ◌&&◌}
-use lib.ListN.{length, drop}
 use native.Mathlib.Omega.{arith}
-use borrow.Author.Rules.{rules}
-use Rattle.model.specs.Text.{same_bytes}
 use Rattle.published.proofs.ReadingLaws.{other_length, same_more, same_none}
 use Rattle.text.proofs.FieldLaws.{and_true}
 use Rattle.published.proofs.labels.is_same.Goals as goal

@@ -1,13 +1,9 @@
 -- `published::labels::is_same` meets its contract. Assumes nothing.
-use mathlib.Core.Path.{◌≡◌, refl, sym, ap, ◌∙◌}
+use mathlib.Core.Path.{◌≡◌}
 use Prim.Native.Nat.{◌-◌}
-use mathlib.Core.Bool.{Bool, ◌&&◌}
+use mathlib.Core.Bool.{◌&&◌}
 use lib.ListN.{length, drop}
-use native.Mathlib.Omega.{arith}
-use borrow.Author.Rules.{rules}
 use Rattle.model.specs.Text.{same_bytes}
-use Rattle.published.proofs.ReadingLaws.{other_length, same_more, same_none}
-use Rattle.text.proofs.FieldLaws.{and_true}
 use Rattle.published.proofs.labels.is_same.Given as goal
 
 abbrev pub invariant-loop-i : goal.invariant-loop-i

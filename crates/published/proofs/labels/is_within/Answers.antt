@@ -1,9 +1,7 @@
 -- `published::labels::is_within` meets its contract: the three limits, one after the other. Assumes nothing.
 use mathlib.Core.Path.{sym, ap, ◌∙◌}
-use borrow.Author.Tests.{not-true, not-false}
 use Rattle.published.specs.Table.{found_line, entries}
 use Rattle.published.proofs.TableLaws.{no_name, double, single, entries-length}
-use borrow.Author.Rules.{rules}
 use Rattle.published.proofs.labels.is_within.Goals as goal
 
 pub returns-then-not-is_name : goal.returns-then-not-is_name

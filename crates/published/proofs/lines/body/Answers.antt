@@ -1,7 +1,6 @@
 -- `published::lines::body` meets its contract. Assumes nothing.
 use mathlib.Core.Path.{◌∙◌}
 use Rattle.published.proofs.PlaceLaws.{body_same, body_next}
-use borrow.Author.Rules.{rules}
 use Rattle.published.proofs.lines.body.Goals as goal
 
 pub returns-then-n-eq0 : goal.returns-then-n-eq0

@@ -1,11 +1,6 @@
 -- `published::lines::code_size` meets its contract: bytes before a comment and the end, one by one. Assumes nothing.
-use mathlib.Core.Path.{◌≡◌}
-use Prim.Native.Nat.{◌-◌, ◌+◌, ◌≤◌}
-use lib.ListN.{length, drop}
-use borrow.Author.Rules.{rules}
 use native.Mathlib.Nat.{zero-add}
 use native.Mathlib.Omega.{arith}
-use Rattle.published.specs.Reading.{uncommented}
 use Rattle.published.proofs.PlaceLaws.{code_more, code_at_comment, code_at_end, code_none}
 use Rattle.published.proofs.lines.code_size.Goals as goal
 

@@ -1,7 +1,6 @@
 -- `published::lines::label_size` meets its contract. Assumes nothing.
 use Rattle.published.proofs.PlaceLaws.{label_none, label_is, label_not}
 use native.Mathlib.Omega.{arith}
-use borrow.Author.Rules.{rules}
 use Rattle.published.proofs.lines.label_size.Goals as goal
 
 pub returns-then-n-eq0 : goal.returns-then-n-eq0

@@ -7,7 +7,6 @@ use lib.Dec.{ltb}
 use lib.Seq.{length-take-le}
 use native.Mathlib.Omega.{arith}
 use Rattle.published.proofs.PlaceLaws.{placed-code, placed_end, placed_long}
-use borrow.Author.Rules.{rules}
 use Rattle.published.proofs.lines.line_at.Goals as goal
 
 pub slice_bounds-blanks-end : goal.slice_bounds-blanks-end

@@ -1,6 +1,6 @@
 -- `published::operands::based` meets its contract: a base before a comma, an offset behind it. Assumes nothing.
 use lib.Seq.{length-take-le}
-use Rattle.published.specs.Reading.{read_based, pointed}
+use Rattle.published.specs.Reading.{read_based}
 use Rattle.text.proofs.DigitLaws.{number_below}
 use Rattle.text.proofs.PartLaws.{rest_all, no_head, tail_before, tail_after}
 use Rattle.text.specs.declared.Field.TheVariants.{Is, Wrong}
@@ -12,7 +12,6 @@ use Prim.Native.Nat.{ℕ, ◌-◌}
 use mathlib.Core.Path.{◌≡◌, sym, ap, ◌∙◌}
 use borrow.Author.Tests.{eq-eqb, ne_eqb}
 use native.Mathlib.Omega.{arith}
-use borrow.Author.Rules.{rules}
 use Rattle.published.proofs.operands.based.Goals as goal
 
 pub returns-then-s-eq0 : goal.returns-then-s-eq0

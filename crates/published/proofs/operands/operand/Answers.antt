@@ -7,7 +7,6 @@ use Rattle.text.specs.Fields.{found, read_direct}
 use lib.ListN.{get_or}
 use mathlib.Core.Path.{◌≡◌, sym, ap, ◌∙◌}
 use borrow.Author.Tests.{eq-eqb, ne_eqb}
-use borrow.Author.Rules.{rules}
 use Rattle.published.proofs.operands.operand.Goals as goal
 
 pub returns-then-s-eq0 : goal.returns-then-s-eq0

@@ -1,6 +1,5 @@
 -- `published::operands::pointed` meets its contract. Assumes nothing.
 use borrow.Author.Tests.{lt-ltb, le-ltb}
-use borrow.Author.Rules.{rules}
 use Rattle.published.proofs.operands.pointed.Goals as goal
 
 pub returns-then-k-lt128 : goal.returns-then-k-lt128

@@ -1,6 +1,5 @@
 -- `published::parts::after` meets its contract. Assumes nothing.
 use Rattle.published.proofs.ReadingLaws.{after_cut}
-use borrow.Author.Rules.{rules}
 use Rattle.published.proofs.parts.after.Goals as goal
 
 pub returns : goal.returns

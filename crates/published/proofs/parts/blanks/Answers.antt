@@ -1,10 +1,6 @@
 -- `published::parts::blanks` meets its contract. Assumes nothing.
-use borrow.Author.Tests.{not-true, not-false}
-use Rattle.published.specs.Reading.{trimmed}
-use lib.ListN.{length, drop}
-use Prim.Native.Nat.{◌≤◌, ◌-◌}
 use Rattle.published.proofs.ReadingLaws.{trim_blank, trim_there, trim_none}
-use mathlib.Core.Path.{◌≡◌, refl, sym, ◌∙◌}
+use mathlib.Core.Path.{refl, sym, ◌∙◌}
 use borrow.Author.Rules.{rules}
 use native.Mathlib.Omega.{arith}
 use Rattle.published.proofs.parts.blanks.Goals as goal

@@ -1,7 +1,6 @@
 -- `published::parts::is_blank` meets its contract. Assumes nothing.
 use mathlib.Core.Path.{sym}
 use Rattle.published.proofs.PartLaws.{no_blank}
-use borrow.Author.Rules.{rules}
 use Rattle.published.proofs.parts.is_blank.Goals as goal
 
 pub returns-then-b-gt32 : goal.returns-then-b-gt32

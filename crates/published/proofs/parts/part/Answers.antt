@@ -2,7 +2,6 @@
 use lib.Seq.{length-take-le}
 use Rattle.published.proofs.ReadingLaws.{part_none, part_short, part_there}
 use mathlib.Core.Path.{sym}
-use borrow.Author.Rules.{rules}
 use Rattle.published.proofs.parts.part.Goals as goal
 
 pub returns-then-len-at : goal.returns-then-len-at

@@ -1,10 +1,7 @@
 -- `published::parts::word` meets its contract. Assumes nothing.
-use Rattle.published.specs.Reading.{word_of}
 use native.Mathlib.Nat.{zero-add}
-use lib.ListN.{length, drop}
-use Prim.Native.Nat.{◌≤◌, ◌+◌, ◌-◌}
 use Rattle.published.proofs.ReadingLaws.{word_end, word_more, word_none}
-use mathlib.Core.Path.{◌≡◌, sym, ◌∙◌}
+use mathlib.Core.Path.{sym, ◌∙◌}
 use borrow.Author.Rules.{rules}
 use native.Mathlib.Omega.{arith}
 use Rattle.published.proofs.parts.word.Goals as goal

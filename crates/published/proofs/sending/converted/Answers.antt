@@ -1,6 +1,5 @@
 -- `published::sending::converted` meets its contract. Assumes nothing.
 use Rattle.published.proofs.SendLaws.{handed_count, handed_refused, handed_halted, handed_spent}
-use borrow.Author.Rules.{rules}
 use Rattle.published.proofs.sending.converted.Goals as goal
 
 pub returns-in-Count : goal.returns-in-Count

@@ -1,6 +1,5 @@
 -- `published::sending::fits` meets its contract: by the longest lines, or by the text printed where there is no room. Assumes nothing.
 use Rattle.published.proofs.SendLaws.{fits_any, fits_printed}
-use borrow.Author.Rules.{rules}
 use Rattle.published.proofs.sending.fits.Goals as goal
 
 pub returns-then-n-room : goal.returns-then-n-room

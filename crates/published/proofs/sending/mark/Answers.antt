@@ -1,6 +1,5 @@
 -- `published::sending::mark` meets its contract. Assumes nothing.
 use Rattle.published.proofs.SendLaws.{mark_some, mark_none, mark_past}
-use borrow.Author.Rules.{rules}
 use Rattle.published.proofs.sending.mark.Goals as goal
 
 pub returns-then-t-used : goal.returns-then-t-used

@@ -1,10 +1,9 @@
 -- `published::sending::mark_targets` meets its contract: the targets of the lines so far are told. Assumes nothing.
 use mathlib.Core.Path.{sym, ap, ◌∙◌}
-use Prim.Native.Nat.{ℕ, ◌-◌}
+use Prim.Native.Nat.{ℕ}
 use mathlib.Core.List.{List}
 use lib.ListN.{get_or}
-use borrow.Author.Rules.{rules}
-use Rattle.published.proofs.SendLaws.{Marking, marking_none, marking_next, marking_all}
+use Rattle.published.proofs.SendLaws.{marking_none, marking_next, marking_all}
 use Rattle.published.proofs.sending.mark_targets.Goals as goal
 
 pub loop-i-init : goal.loop-i-init

@@ -1,16 +1,15 @@
 -- `published::sending::print` meets its contract: line after line, what is left gives the whole text. Assumes nothing.
 use mathlib.Core.Path.{ap, ◌∙◌}
-use Prim.Native.Nat.{ℕ, ◌-◌}
+use Prim.Native.Nat.{ℕ}
 use mathlib.Core.List.{List, [], ◌∷◌, ◌++◌}
 use mathlib.Core.Bool.{Bool}
 use lib.ListN.{get_or}
-use borrow.Author.Rules.{rules}
 use native.Mathlib.Omega.{arith}
 use Rattle.published.specs.Published.{instruction_text, label_line}
 use Rattle.model.specs.Text.{newline}
 use Rattle.model.specs.Stored.{line_of, lines_from}
 use Rattle.printing.proofs.WroteLaws.{then, as_text}
-use Rattle.published.proofs.SendLaws.{Printed, printed_none, printed-next, printed_all, any_mark, used_is}
+use Rattle.published.proofs.SendLaws.{printed_none, printed-next, printed_all, any_mark, used_is}
 use Rattle.published.proofs.sending.print.Goals as goal
 
 pub loop-i-init : goal.loop-i-init
@@ -37,7 +36,7 @@ loop-i-preserved c =
     (then
     (as_text (ap (λ (t : Bool). label_line t i) (used_is (lines_from p 0 c.args.n) c.args.used.now i c.requires.2 (omega (arith, c.requires.0, in-range)))) c.put_label-named.ensures)
     (as_text (ap (λ (l : List ℕ). instruction_text (line_of 0 (get_or l 1 0) (get_or l 2 0) (get_or l 3 0) (get_or l 4 0) (get_or l 5 0)) ++ (newline ∷ [])) c.numbers_at-l.ensures ∙ any_mark p i) c.put_instruction-at.ensures))
-    (c.put_instruction-at.auto.0 ∙ c.put_label-named.auto.0)
+    (c.put_instruction-at.auto.out ∙ c.put_label-named.auto.out)
 
 pub bounds-used-n : goal.bounds-used-n
 bounds-used-n c = omega (arith, c.requires.0, c.requires.1)
@@ -49,7 +48,7 @@ pub put_label-requires : goal.put_label-requires
 put_label-requires c = omega (arith, c.requires.0, c.loop-i.invariant.near, c.loop-i.invariant.few)
 
 pub shape_of-out : goal.shape_of-out
-shape_of-out c = c.put_label.auto.0 ∙ c.loop-i.invariant.long
+shape_of-out c = c.put_label.auto.out ∙ c.loop-i.invariant.long
 
 pub returns : goal.returns
 returns c =

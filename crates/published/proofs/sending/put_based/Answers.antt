@@ -1,7 +1,6 @@
 -- `published::sending::put_based` meets its contract. Assumes nothing.
 use Rattle.published.specs.Published.{based}
 use Rattle.printing.proofs.WroteLaws.{then}
-use borrow.Author.Rules.{rules}
 use Rattle.published.proofs.sending.put_based.Goals as goal
 
 pub returns : goal.returns

@@ -2,7 +2,6 @@
 use Rattle.printing.proofs.WroteLaws.{nothing, as_text}
 use Rattle.published.proofs.OperandSpelling.{spelled_alike}
 use Rattle.published.proofs.SendLaws.{spelled_public, spelled_sensitive, spelled_table}
-use borrow.Author.Rules.{rules}
 use Rattle.published.proofs.sending.put_form.Goals as goal
 
 pub returns-then-k-lt-PUBLICS : goal.returns-then-k-lt-PUBLICS

@@ -2,7 +2,6 @@
 use Rattle.published.specs.Published.{instruction_text}
 use mathlib.Core.List.{append_assoc}
 use Rattle.printing.proofs.WroteLaws.{then, as_text}
-use borrow.Author.Rules.{rules}
 use Rattle.published.proofs.sending.put_instruction.Goals as goal
 
 pub returns : goal.returns

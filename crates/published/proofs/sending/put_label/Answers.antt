@@ -2,7 +2,6 @@
 use Rattle.published.specs.Published.{label_line}
 use Rattle.published.specs.Published.{line_name}
 use Rattle.printing.proofs.WroteLaws.{then, nothing}
-use borrow.Author.Rules.{rules}
 use Rattle.published.proofs.sending.put_label.Goals as goal
 
 pub returns-then-used : goal.returns-then-used

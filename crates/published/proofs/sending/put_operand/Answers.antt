@@ -2,7 +2,6 @@
 use Rattle.published.proofs.SendLaws.{spaced_empty, spaced_table, spaced_there}
 use mathlib.Core.Path.{sym}
 use Rattle.printing.proofs.WroteLaws.{then, nothing, as_text}
-use borrow.Author.Rules.{rules}
 use Rattle.published.proofs.sending.put_operand.Goals as goal
 
 pub returns-then-k-lt-LITERALS : goal.returns-then-k-lt-LITERALS

@@ -3,7 +3,6 @@ use borrow.Author.Tests.{eq-eqb, ne_eqb}
 use Rattle.model.specs.Stored.{target_of}
 use Rattle.published.specs.Published.{line_name, spell_target_name}
 use Rattle.printing.proofs.WroteLaws.{then, nothing}
-use borrow.Author.Rules.{rules}
 use Rattle.published.proofs.sending.put_target.Goals as goal
 
 pub returns-then-t-eq0 : goal.returns-then-t-eq0

@@ -1,6 +1,5 @@
 -- `published::taking::clean_after` meets its contract. Assumes nothing.
 use borrow.Author.Tests.{eq-eqb, ne_eqb}
-use borrow.Author.Rules.{rules}
 use Rattle.published.proofs.taking.clean_after.Goals as goal
 
 pub returns-then-not-wrong : goal.returns-then-not-wrong

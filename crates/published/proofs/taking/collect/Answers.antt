@@ -1,6 +1,6 @@
 -- `published::taking::collect` meets its contract: what is seen so far, and what is left, give what is seen of the whole text. Assumes nothing.
 use mathlib.Core.Path.{◌≡◌, refl, sym, ap, subst, ◌∙◌}
-use Prim.Native.Nat.{ℕ, ◌+◌, ◌-◌, ◌≤◌, ◌<◌}
+use Prim.Native.Nat.{ℕ, ◌≤◌, ◌<◌}
 use mathlib.Core.List.{List}
 use lib.ListN.{length, take, drop}
 use lib.Dec.{ltb}
@@ -8,7 +8,7 @@ use borrow.Author.Rules.{rules}
 use native.Mathlib.Omega.{arith}
 use Rattle.published.specs.Reading.{label_size, body_of}
 use Rattle.published.specs.Published.{bit}
-use Rattle.published.proofs.CollectLaws.{Walked, walked_none, walked_next, walked_all, cut}
+use Rattle.published.proofs.CollectLaws.{walked_none, walked_next, walked_all, cut}
 use Rattle.published.proofs.taking.collect.Goals as goal
 
 pub loop-at-init : goal.loop-at-init
@@ -46,7 +46,7 @@ loop-at-preserved c =
     (c.counts-n.ensures.0 ∙ ap (λ (x : List ℕ). bit (ltb 0 (length x))) (c.body.ensures ∙ ap body_of s)) c.line_at-l.ensures.past refl c.clean_after-clean.ensures
 
 pub shape_of-heads : goal.shape_of-heads
-shape_of-heads c = c.loop-at.invariant.linked.head_room ∙ sym c.requires.head-room
+shape_of-heads c = c.loop-at.invariant.linked.head_room ∙ sym c.requires.head_room
 
 pub shape_of-table : goal.shape_of-table
 shape_of-table c = c.loop-at.invariant.linked.room ∙ sym c.requires.room

@@ -1,6 +1,6 @@
 -- `published::taking::convert` meets its contract: what is left to check gives the answer, what is left to store the lines. Assumes nothing.
 use mathlib.Core.Path.{◌≡◌, refl, sym, ap, subst, ◌∙◌}
-use Prim.Native.Nat.{ℕ, ◌+◌, ◌*◌, ◌-◌, ◌≤◌, ◌<◌}
+use Prim.Native.Nat.{ℕ, ◌+◌, ◌*◌, ◌≤◌, ◌<◌}
 use mathlib.Core.List.{List}
 use lib.ListN.{length, take, drop}
 use borrow.Author.Rules.{rules}
@@ -11,7 +11,7 @@ use Rattle.published.specs.Published.{text_lines, none_seen, seen_from}
 use Rattle.model.specs.Stored.{Parsed}
 use Rattle.model.specs.Limits.{line_width}
 use Rattle.published.proofs.TextLaws.{body_trimmed}
-use Rattle.published.proofs.ConvertLaws.{Converting, converting_none, converting_next, converts, refused_converts, refuses, fault-told, room_is, cut, read_told, all_labels, low_labels}
+use Rattle.published.proofs.ConvertLaws.{converting_none, converting_next, converts, refused_converts, refuses, fault-told, room_is, cut, read_told, all_labels, low_labels}
 use Rattle.published.proofs.taking.convert.Goals as goal
 
 pub loop-at-init : goal.loop-at-init

@@ -1,6 +1,5 @@
 -- `published::taking::keep` meets its contract: the six numbers stand at their line. Assumes nothing.
 use Rattle.published.proofs.ConvertLaws.{kept_none, kept_some}
-use borrow.Author.Rules.{rules}
 use Rattle.published.proofs.taking.keep.Goals as goal
 
 pub returns-in_default : goal.returns-in_default

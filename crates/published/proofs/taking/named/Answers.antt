@@ -1,6 +1,5 @@
 -- `published::taking::named` meets its contract: a line without a label, and one with a label. Assumes nothing.
 use Rattle.published.proofs.CollectLaws.{none_named, some_named}
-use borrow.Author.Rules.{rules}
 use Rattle.published.proofs.taking.named.Goals as goal
 
 pub returns-then-w-eq0 : goal.returns-then-w-eq0

@@ -1,6 +1,5 @@
 -- `published::taking::target_number` meets its contract. Assumes nothing.
 use native.Mathlib.Omega.{arith}
-use borrow.Author.Rules.{rules}
 use Rattle.published.proofs.taking.target_number.Goals as goal
 
 pub returns-then-aimed : goal.returns-then-aimed
