@@ -1,0 +1,12 @@
+-- `published::labels::bucket` meets its contract: the number of the bytes so far, and the bytes left. Assumes nothing.
+use mathlib.Core.Path.{◌≡◌}
+use Prim.Native.Nat.{◌-◌, ◌<◌}
+use lib.ListN.{length, drop}
+use Rattle.published.specs.Table.{hash_from}
+use Rattle.published.proofs.labels.bucket.Given as goal
+
+abbrev pub invariant-loop-i : goal.invariant-loop-i
+invariant-loop-i l = (l.h < 65536) × (hash_from l.h (drop l.i l.name) ≡ hash_from 0 (drop (length l.name - 8) l.name))
+
+abbrev pub decreases-loop-i : goal.decreases-loop-i
+decreases-loop-i l = length l.name - l.i
