@@ -17,8 +17,7 @@ use Rattle.choices.proofs.SetBytes.{listed_at, listed-front}
 use Rattle.sets.proofs.DrawnStates.{heads_at}
 use Rattle.sets.proofs.Reports.{lists_length, values_of, sized-full}
 use borrow.Author.Rules.{rules}
-use Rattle.walk.proofs.take_sets.Statement.{statement}
-use Rattle.walk.proofs.take_sets.Tie as tie
+use Rattle.walk.proofs.take_sets.Goals as goal
 
 record Took (b own : List ℕ) (s : State) (i : ℕ) : Type 0 where
   most : i ≤ state_size
@@ -69,89 +68,52 @@ unfolding meaning
 as-they-are k [] = refl
 as-they-are k (x ∷ xs) = ap (λ (ys : List ℕ). x ∷ ys) (as-they-are k xs)
 
-abbrev invariant-loop : tie.invariant-loop
-invariant-loop sets own₀ state₀ i₀ own state i = Took sets own state i
-
-abbrev decreases-loop : tie.decreases-loop
-decreases-loop sets own₀ state₀ i₀ own state i = state_size - i
-
-loop-holds : tie.Need-loop-init invariant-loop decreases-loop
-loop-holds c =
-    let p = c.before.before.before.requires in
+pub loop-i-init : goal.loop-i-init
+loop-i-init c =
+    let p = c.requires in
     record { most = omega arith; long = p.2; long-state = p.3; lists = λ i h. absurd (omega arith); first-values = λ i h. absurd (omega arith) }
 
-distinct-at-requires : tie.Need-distinct-at-requires invariant-loop decreases-loop
-distinct-at-requires c κs =
-    let p = c.before.before.before.before.before.requires in
+pub distinct_at-found-requires : goal.distinct_at-found-requires
+distinct_at-found-requires c =
+    let p = c.requires in
     p.0
 
-slice-aggregate-put-set : tie.Need-slice-aggregate-put-set invariant-loop decreases-loop
-slice-aggregate-put-set c = search rules
-
-put-set-requires : tie.Need-put-set-requires invariant-loop decreases-loop
-put-set-requires c κs =
-    let m = c.before.before.before.before.loop in
+pub put_set-requires : goal.put_set-requires
+put_set-requires c =
+    let m = c.loop-i in
     (m.invariant.long, search rules)
 
-array-read-state : tie.Need-array-read-state invariant-loop decreases-loop
-array-read-state c = search rules
-
-slice-write-state : tie.Need-slice-write-state invariant-loop decreases-loop
-slice-write-state c =
-    let t = c.before.before.before.before.before.before.loop-test in
-    let m = c.before.before.before.before.before.before.before.loop in
+pub bounds-state-i : goal.bounds-state-i
+bounds-state-i c =
+    let t = c.loop-i-test in
+    let m = c.loop-i in
     omega (arith, m.invariant.long-state, t.true)
 
-add-i : tie.Need-overflow-add-i invariant-loop decreases-loop
-add-i c = search rules
-
-loop-less : tie.Need-loop-smaller invariant-loop decreases-loop
-loop-less c = search rules
-
-loop-again : tie.Need-loop-preserved invariant-loop decreases-loop
-loop-again c =
-    let q = c.before.before.put-set in
-    let v = c.before.before.before.before.before.distinct-at in
-    let t = c.before.before.before.before.before.before.loop-test in
-    let m = c.before.before.before.before.before.before.before.loop in
-    let x = c.before.before.before.before.before.before.before.before.before.before.before.args in
-    let p = c.before.before.before.before.before.before.before.before.before.before.before.requires in
+pub loop-i-preserved : goal.loop-i-preserved
+loop-i-preserved c =
+    let q = c.put_set in
+    let v = c.distinct_at-found in
+    let t = c.loop-i-test in
+    let m = c.loop-i in
+    let x = c.args in
+    let p = c.requires in
     one_more x.sets.now m.own_val m.state m.i p.0 p.1 m.invariant t.true v.result (search rules) (v.ensures.0 ∙ ap distinct (as-they-are (kind m.i) (values (lists_of x.sets.now) m.i))) v.ensures.1 _ q.auto.0 q.ensures
 
-same_length : tie.Need-same-length invariant-loop decreases-loop
-same_length c =
-    let m = c.before.loop in
-    let p = c.before.before.before.before.before.requires in
+pub shape_of-own : goal.shape_of-own
+shape_of-own c =
+    let m = c.loop-i in
+    let p = c.requires in
     m.invariant.long ∙ sym p.2
 
-same-length-2 : tie.Need-same-length-2 invariant-loop decreases-loop
-same-length-2 c =
-    let m = c.before.loop in
-    let p = c.before.before.before.before.before.requires in
+pub shape_of-state : goal.shape_of-state
+shape_of-state c =
+    let m = c.loop-i in
+    let p = c.requires in
     m.invariant.long-state ∙ sym p.3
 
-returns : tie.Need-returns invariant-loop decreases-loop
+pub returns : goal.returns
 returns c =
-    let t = c.loop-test in
-    let m = c.before.loop in
-    let x = c.before.before.before.before.before.args in
+    let t = c.loop-i-test in
+    let m = c.loop-i in
+    let x = c.args in
     all x.sets.now m.own_val m.state m.i m.invariant t.false
-
-pub take-sets-spec : {M : Type 1} → statement M
-take-sets-spec =
-    tie.close
-    (tie.spec
-    invariant-loop
-    decreases-loop
-    loop-holds
-    distinct-at-requires
-    slice-aggregate-put-set
-    put-set-requires
-    array-read-state
-    slice-write-state
-    add-i
-    loop-less
-    loop-again
-    same_length
-    same-length-2
-    returns)
