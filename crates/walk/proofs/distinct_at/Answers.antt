@@ -14,23 +14,13 @@ use Rattle.choices.proofs.SetBytes.{listed-few, values-past, values_le}
 use Rattle.choices.proofs.Gathered.{insert_grows}
 use Rattle.choices.proofs.Turns.{put-over, put_next}
 use borrow.Author.Rules.{rules}
+use Rattle.walk.proofs.Gathers.{Noted, meant}
 use Rattle.walk.proofs.distinct_at.Goals as goal
-
-record Noted (vs : List ℕ) (n : ℕ) (f : List ℕ) (j : ℕ) : Type 0 where
-  most : j ≤ n
-  long : length f ≡ suc set_width
-  count : get_or f 0 0 ≤ set_width
-  few-noted : length (listed f) ≤ j
-  same : insert_all (listed f) (drop j vs) ≡ distinct vs
 
 map_at : (f : ℕ → ℕ) (xs : List ℕ) (j : ℕ) → j < length xs → get_or (map f xs) j 0 ≡ f (get_or xs j 0)
 map_at f [] j h = absurd (omega arith)
 map_at f (x ∷ xs) zero h = refl
 map_at f (x ∷ xs) (suc j) h = map_at f xs j (omega arith)
-
--- what the values of place i mean by f
-abbrev meant : (ℕ → ℕ) → List ℕ → ℕ → List ℕ
-meant f b i = map f (values (lists_of b) i)
 
 module _ (f : ℕ → ℕ) (b : List ℕ) (i : ℕ) (l : length b ≡ set_width * state_size) where
   abbrev vs : List ℕ
@@ -50,21 +40,21 @@ module _ (f : ℕ → ℕ) (b : List ℕ) (i : ℕ) (l : length b ≡ set_width 
         most = omega arith;
         long = l';
         count = e.1;
-        few-noted = omega (arith, ap length e.0, (insert_grows (listed u) y).1, I.few-noted);
+        few_noted = omega (arith, ap length e.0, (insert_grows (listed u) y).1, I.few_noted);
         same = ap (λ (xs : List ℕ). insert_all xs (drop (j + 1) vs)) (e.0 ∙ ap (insert (listed u)) at) ∙ sym (put_next vs j (listed u) (omega (arith, meant-length))) ∙ I.same;
       }
 
   whole : {n : ℕ} (u : List ℕ) (j : ℕ) → n ≡ length (values (lists_of b) i) → Noted vs n u j → n ≤ j → (listed u ≡ distinct vs) × (get_or u 0 0 ≤ max_values)
   whole u j en I h = (
     sym (put-over vs j (listed u) (omega (arith, meant-length))) ∙ I.same,
-    omega (arith, listed-few u set_width I.long I.count, I.few-noted, I.most, meant-length, at_most),
+    omega (arith, listed-few u set_width I.long I.count, I.few_noted, I.most, meant-length, at_most),
   )
 
 pub size_of-n-requires : goal.size_of-n-requires
 size_of-n-requires c = c.requires
 
 pub loop-j-init : goal.loop-j-init
-loop-j-init c = record { most = omega arith; long = search rules; count = omega arith; few-noted = omega arith; same = refl }
+loop-j-init c = record { most = omega arith; long = search rules; count = omega arith; few_noted = omega arith; same = refl }
 
 pub value_of-requires : goal.value_of-requires
 value_of-requires c = (c.requires, omega (arith, c.size_of-n.ensures))
@@ -74,7 +64,7 @@ note-requires c =
     let I = c.loop-j.invariant in
     let most = at_most (meaning c.args.mark (kind c.args.i)) c.args.sets.now c.args.i c.requires in
     let same = meant-length (meaning c.args.mark (kind c.args.i)) c.args.sets.now c.args.i c.requires in
-    (I.long, omega (arith, listed-few c.loop-j.found set_width I.long I.count, I.few-noted, c.size_of-n.ensures, same, most, c.loop-j-test.true))
+    (I.long, omega (arith, listed-few c.loop-j.found set_width I.long I.count, I.few_noted, c.size_of-n.ensures, same, most, c.loop-j-test.true))
 
 pub loop-j-preserved : goal.loop-j-preserved
 loop-j-preserved c = one_more (meaning c.args.mark (kind c.args.i)) c.args.sets.now c.args.i c.requires _ _ _ c.size_of-n.ensures c.loop-j.invariant c.loop-j-test.true (search rules) c.value_of.ensures c.argument.ensures c.note.ensures

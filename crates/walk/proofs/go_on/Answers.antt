@@ -24,18 +24,16 @@ returns c =
     let s = c.args.state.now in
     let f = c.args.found.now in
     let at = c.place_at-at.result in
-    let lf = c.put_set-arg-2-1.given.0 in
-    let bus = c.args.bus.now in (
-      goes n c.args.counter _ _ c.next_of-next.ensures c.requires.1,
-      (
-        (
-          went S n s f at c.requires.2 c.requires.1 c.place_at-at.ensures lf c.requires.5 c.requires.6 _ c.put_set.ensures,
-          went_heads S n s f at c.requires.2 c.requires.1 c.place_at-at.ensures lf c.requires.5 c.requires.6 _ _ c.put_set.ensures c.write.ensures,
-        ),
-        (
-          c.lead.ensures.0,
-          rw c.lead.ensures.0 (leads_some S (listed bus) (line_by n) c.requires.2 c.requires.3),
-          c.lead.ensures.1,
-        ),
-      ),
-    )
+    let lf = c.told-found in
+    let bus = c.args.bus.now in record {
+      value = goes n c.args.counter _ _ c.next_of-next.ensures c.requires.1;
+      sets_after = (
+        went S n s f at c.requires.2 c.requires.1 c.place_at-at.ensures lf c.requires.5 c.requires.6 _ c.put_set.ensures,
+        went_heads S n s f at c.requires.2 c.requires.1 c.place_at-at.ensures lf c.requires.5 c.requires.6 _ _ c.put_set.ensures c.write.ensures,
+      );
+      bus_after = (
+        c.lead.ensures.0,
+        rw c.lead.ensures.0 (leads_some S (listed bus) (line_by n) c.requires.2 c.requires.3),
+        c.lead.ensures.1,
+      );
+    }

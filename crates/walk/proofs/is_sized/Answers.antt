@@ -15,9 +15,6 @@ loop-i-init c = (omega arith, refl)
 pub bounds-sets-i : goal.bounds-sets-i
 bounds-sets-i c = omega (arith, c.requires)
 
-pub overflow_cast-n : goal.overflow_cast-n
-overflow_cast-n c = omega (arith, c.shared_slice_known-1.given (set_width * c.loop-i.i))
-
 pub returns-then-n-eq0 : goal.returns-then-n-eq0
 returns-then-n-eq0 c = sym (sized_empty _ c.loop-i.i c.loop-i-test.true c.if-n-eq0.true) ∙ c.loop-i.invariant.1
 

@@ -23,7 +23,7 @@ returns-then-is_unsettled c =
     let bus = c.args.bus.now in
     let l = line_by c.args.line.now in
     let k = c.args.counter in
-    (moves_21 S (listed bus) l k (sym c.is_unsettled.ensures ∙ c.if-is_unsettled.true), (λ n q. absurd (no_to 21 n q), λ n q. absurd (no_to 21 n q)))
+    record { value = moves_21 S (listed bus) l k (sym c.is_unsettled.ensures ∙ c.if-is_unsettled.true); sets_after = λ n q. absurd (no_to 21 n q); bus_after = λ n q. absurd (no_to 21 n q) }
 
 pub explore-leak-requires : goal.explore-leak-requires
 explore-leak-requires c =
@@ -40,10 +40,10 @@ returns-then-is_overfull c =
     let l = line_by c.args.line.now in
     let k = c.args.counter in
     let u = sym c.is_unsettled.ensures ∙ c.if-is_unsettled.false in
-    let f = c.explore-leak.new.1.1.1.1.1.1.0 in
-    let g = gathered (listed f) c.explore-leak.result c.explore-leak.new.1.1.0 in
+    let f = c.explore-leak.new.found in
+    let g = gathered (listed f) c.explore-leak.result c.explore-leak.new.row in
     let h = told_all S l k g _ c.requires.2 c.explore-leak.ensures.visited.0 in
-    (moves_22 S (listed bus) l k u g h (ltb-true max_values (length (listed f)) (sym c.is_overfull.ensures ∙ c.if-is_overfull.true)), (λ n q. absurd (no_to 22 n q), λ n q. absurd (no_to 22 n q)))
+    record { value = moves_22 S (listed bus) l k u g h (ltb-true max_values (length (listed f)) (sym c.is_overfull.ensures ∙ c.if-is_overfull.true)); sets_after = λ n q. absurd (no_to 22 n q); bus_after = λ n q. absurd (no_to 22 n q) }
 
 pub returns-then-leak : goal.returns-then-leak
 returns-then-leak c =
@@ -52,11 +52,11 @@ returns-then-leak c =
     let l = line_by c.args.line.now in
     let k = c.args.counter in
     let u = sym c.is_unsettled.ensures ∙ c.if-is_unsettled.false in
-    let f = c.explore-leak.new.1.1.1.1.1.1.0 in
-    let g = gathered (listed f) c.explore-leak.result c.explore-leak.new.1.1.0 in
+    let f = c.explore-leak.new.found in
+    let g = gathered (listed f) c.explore-leak.result c.explore-leak.new.row in
     let h = told_all S l k g _ c.requires.2 c.explore-leak.ensures.visited.0 in
     let few = ltb-false max_values (length (listed f)) (sym c.is_overfull.ensures ∙ c.if-is_overfull.false) in
-    (moves_leak S (listed bus) l k u g h c.requires.2 c.requires.3 few c.if-leak.true, (λ n q. absurd (leaks_to n q), λ n q. absurd (leaks_to n q)))
+    record { value = moves_leak S (listed bus) l k u g h c.requires.2 c.requires.3 few c.if-leak.true; sets_after = λ n q. absurd (leaks_to n q); bus_after = λ n q. absurd (leaks_to n q) }
 
 pub is_met-requires : goal.is_met-requires
 is_met-requires c = (search rules, search rules, rw c.explore-leak.ensures.unchanged.0 (full_some (lists_of c.args.sets.now) c.requires.2), search rules, c.requires.3, c.requires.4)
@@ -68,12 +68,12 @@ returns-then-not-is_met c =
     let l = line_by c.args.line.now in
     let k = c.args.counter in
     let u = sym c.is_unsettled.ensures ∙ c.if-is_unsettled.false in
-    let f = c.explore-leak.new.1.1.1.1.1.1.0 in
-    let g = gathered (listed f) c.explore-leak.result c.explore-leak.new.1.1.0 in
+    let f = c.explore-leak.new.found in
+    let g = gathered (listed f) c.explore-leak.result c.explore-leak.new.row in
     let h = told_all S l k g _ c.requires.2 c.explore-leak.ensures.visited.0 in
     let few = ltb-false max_values (length (listed f)) (sym c.is_overfull.ensures ∙ c.if-is_overfull.false) in
     let met = c.is_met.ensures ∙ ap (λ (b : List ℕ). meets (lists_of b) (listed bus) l) c.explore-leak.ensures.unchanged.0 in
-    (moves-apart S (listed bus) l k u g h c.requires.2 c.requires.3 few c.if-leak.false (sym met ∙ c.if-not-is_met.true), (λ n q. absurd (leaks_to n q), λ n q. absurd (leaks_to n q)))
+    record { value = moves-apart S (listed bus) l k u g h c.requires.2 c.requires.3 few c.if-leak.false (sym met ∙ c.if-not-is_met.true); sets_after = λ n q. absurd (leaks_to n q); bus_after = λ n q. absurd (leaks_to n q) }
 
 pub go_on-requires : goal.go_on-requires
 go_on-requires c =
@@ -82,8 +82,8 @@ go_on-requires c =
     let l = line_by c.args.line.now in
     let k = c.args.counter in
     let u = sym c.is_unsettled.ensures ∙ c.if-is_unsettled.false in
-    let f = c.explore-leak.new.1.1.1.1.1.1.0 in
-    let g = gathered (listed f) c.explore-leak.result c.explore-leak.new.1.1.0 in
+    let f = c.explore-leak.new.found in
+    let g = gathered (listed f) c.explore-leak.result c.explore-leak.new.row in
     let h = told_all S l k g _ c.requires.2 c.explore-leak.ensures.visited.0 in
     let few = ltb-false max_values (length (listed f)) (sym c.is_overfull.ensures ∙ c.if-is_overfull.false) in
     let e = c.explore-leak.ensures.unchanged.0 in (
@@ -103,16 +103,14 @@ returns c =
     let l = line_by c.args.line.now in
     let k = c.args.counter in
     let u = sym c.is_unsettled.ensures ∙ c.if-is_unsettled.false in
-    let f = c.explore-leak.new.1.1.1.1.1.1.0 in
-    let g = gathered (listed f) c.explore-leak.result c.explore-leak.new.1.1.0 in
+    let f = c.explore-leak.new.found in
+    let g = gathered (listed f) c.explore-leak.result c.explore-leak.new.row in
     let h = told_all S l k g _ c.requires.2 c.explore-leak.ensures.visited.0 in
     let few = ltb-false max_values (length (listed f)) (sym c.is_overfull.ensures ∙ c.if-is_overfull.false) in
     let e = c.explore-leak.ensures.unchanged.0 in
     let met = c.is_met.ensures ∙ ap (λ (b : List ℕ). meets (lists_of b) (listed bus) l) e in
-    let w = c.go_on.ensures in (
-      ap (λ (j : ℕ). To j) (w.0 ∙ ap (λ (b : List ℕ). next l k (heads (lists_of b))) e) ∙ moves_on S (listed bus) l k u g h c.requires.2 c.requires.3 few c.if-leak.false (sym met ∙ c.if-not-is_met.false),
-      (
-        (λ j q. (w.1.0.0 ∙ ap (λ (b : List ℕ). onto (lists_of b) l) e, w.1.0.1)),
-        (λ j q. (w.1.1.0 ∙ ap (λ (b : List ℕ). leads (lists_of b) (listed bus) l) e, w.1.1.1, w.1.1.2)),
-      ),
-    )
+    let w = c.go_on.ensures in record {
+      value = ap (λ (j : ℕ). To j) (w.value ∙ ap (λ (b : List ℕ). next l k (heads (lists_of b))) e) ∙ moves_on S (listed bus) l k u g h c.requires.2 c.requires.3 few c.if-leak.false (sym met ∙ c.if-not-is_met.false);
+      sets_after = λ j q. (w.sets_after.0 ∙ ap (λ (b : List ℕ). onto (lists_of b) l) e, w.sets_after.1);
+      bus_after = λ j q. (w.bus_after.0 ∙ ap (λ (b : List ℕ). leads (lists_of b) (listed bus) l) e, w.bus_after.1, w.bus_after.2);
+    }

@@ -17,14 +17,8 @@ use Rattle.choices.proofs.SetBytes.{listed_at, listed-front}
 use Rattle.sets.proofs.DrawnStates.{heads_at}
 use Rattle.sets.proofs.Reports.{lists_length, values_of, sized-full}
 use borrow.Author.Rules.{rules}
+use Rattle.walk.proofs.Gathers.{Took}
 use Rattle.walk.proofs.take_sets.Goals as goal
-
-record Took (b own : List ℕ) (s : State) (i : ℕ) : Type 0 where
-  most : i ≤ state_size
-  long : length own ≡ set_width * state_size
-  long-state : length s ≡ state_size
-  lists : (m : ℕ) → m < i → values (lists_of own) m ≡ values (sets_of b) m
-  first-values : (m : ℕ) → m < i → get_or s m 0 ≡ get_or (values (sets_of b) m) 0 0
 
 module _ (b own : List ℕ) (s : State) (i : ℕ) where
   one_more : length b ≡ set_width * state_size → T (sized state_size b) → Took b own s i → i < state_size → (f : List ℕ) → length f ≡ suc set_width
@@ -33,9 +27,9 @@ module _ (b own : List ℕ) (s : State) (i : ℕ) where
   one_more l h I g f lf ef hf own' lo eo = record {
     most = omega arith;
     long = lo ∙ I.long;
-    long-state = length-set s i (get_or f 1 0) ∙ I.long-state;
+    long_state = length-set s i (get_or f 1 0) ∙ I.long_state;
     lists = λ m n. at-list m n (ℕ_discrete m i);
-    first-values = λ m n. at_first m n (ℕ_discrete m i);
+    first_values = λ m n. at_first m n (ℕ_discrete m i);
   }
     where
       found : listed f ≡ values (sets_of b) i
@@ -47,9 +41,9 @@ module _ (b own : List ℕ) (s : State) (i : ℕ) where
           rw (e, eo, get_or-set_same (lists_of own) i (listed (take set_width f)) (0 ∷ []) (omega (arith, lists_length state_size own))) (listed-front f hf ∙ found)
 
       at_first : (m : ℕ) → m < i + 1 → Dec (m ≡ i) → get_or (set s i (get_or f 1 0)) m 0 ≡ get_or (values (sets_of b) m) 0 0
-      at_first m n (no d) = get_or-set_other s i m (get_or f 1 0) 0 d ∙ I.first-values m (omega (arith, d))
+      at_first m n (no d) = get_or-set_other s i m (get_or f 1 0) 0 d ∙ I.first_values m (omega (arith, d))
       at_first m n (yes e) =
-          rw (e, get_or-set_same s i (get_or f 1 0) 0 (omega (arith, I.long-state)))
+          rw (e, get_or-set_same s i (get_or f 1 0) 0 (omega (arith, I.long_state)))
           (sym (listed_at f set_width lf 0 (rw found ((sized-full b l h).some_in i g))) ∙ ap (λ (xs : List ℕ). get_or xs 0 0) found)
 
   all : Took b own s i → state_size ≤ i → (lists_of own ≡ sets_of b) × (s ≡ heads (lists_of own))
@@ -58,8 +52,8 @@ module _ (b own : List ℕ) (s : State) (i : ℕ) where
       ext_get_or (0 ∷ []) (lists_of own) (sets_of b) (lists_length state_size own ∙ sym (length-map (lists_of b) distinct ∙ lists_length state_size b))
       (λ m n. I.lists m (omega (arith, lists_length state_size own))) in (
         same,
-        ext_get_or 0 s (heads (lists_of own)) (I.long-state ∙ sym (length-map (lists_of own) (λ xs. get_or xs 0 0) ∙ lists_length state_size own))
-            (λ m n. I.first-values m (omega (arith, I.long-state)) ∙ ap (λ (S : Sets). get_or (values S m) 0 0) (sym same) ∙ sym (heads_at (lists_of own) m)),
+        ext_get_or 0 s (heads (lists_of own)) (I.long_state ∙ sym (length-map (lists_of own) (λ xs. get_or xs 0 0) ∙ lists_length state_size own))
+            (λ m n. I.first_values m (omega (arith, I.long_state)) ∙ ap (λ (S : Sets). get_or (values S m) 0 0) (sym same) ∙ sym (heads_at (lists_of own) m)),
       )
 
 -- in an unmarked line values are as they are
@@ -71,7 +65,7 @@ as-they-are k (x ∷ xs) = ap (λ (ys : List ℕ). x ∷ ys) (as-they-are k xs)
 pub loop-i-init : goal.loop-i-init
 loop-i-init c =
     let p = c.requires in
-    record { most = omega arith; long = p.2; long-state = p.3; lists = λ i h. absurd (omega arith); first-values = λ i h. absurd (omega arith) }
+    record { most = omega arith; long = p.2; long_state = p.3; lists = λ i h. absurd (omega arith); first_values = λ i h. absurd (omega arith) }
 
 pub distinct_at-found-requires : goal.distinct_at-found-requires
 distinct_at-found-requires c =
@@ -87,7 +81,7 @@ pub bounds-state-i : goal.bounds-state-i
 bounds-state-i c =
     let t = c.loop-i-test in
     let m = c.loop-i in
-    omega (arith, m.invariant.long-state, t.true)
+    omega (arith, m.invariant.long_state, t.true)
 
 pub loop-i-preserved : goal.loop-i-preserved
 loop-i-preserved c =
@@ -97,7 +91,7 @@ loop-i-preserved c =
     let m = c.loop-i in
     let x = c.args in
     let p = c.requires in
-    one_more x.sets.now m.own_val m.state m.i p.0 p.1 m.invariant t.true v.result (search rules) (v.ensures.0 ∙ ap distinct (as-they-are (kind m.i) (values (lists_of x.sets.now) m.i))) v.ensures.1 _ q.auto.0 q.ensures
+    one_more x.sets.now m.own m.state m.i p.0 p.1 m.invariant t.true v.result (search rules) (v.ensures.0 ∙ ap distinct (as-they-are (kind m.i) (values (lists_of x.sets.now) m.i))) v.ensures.1 _ q.auto.sets q.ensures
 
 pub shape_of-own : goal.shape_of-own
 shape_of-own c =
@@ -109,11 +103,11 @@ pub shape_of-state : goal.shape_of-state
 shape_of-state c =
     let m = c.loop-i in
     let p = c.requires in
-    m.invariant.long-state ∙ sym p.3
+    m.invariant.long_state ∙ sym p.3
 
 pub returns : goal.returns
 returns c =
     let t = c.loop-i-test in
     let m = c.loop-i in
     let x = c.args in
-    all x.sets.now m.own_val m.state m.i m.invariant t.false
+    all x.sets.now m.own m.state m.i m.invariant t.false

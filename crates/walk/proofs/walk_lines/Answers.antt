@@ -47,14 +47,14 @@ loop-counter-preserved c =
     let f = c.step-moved in
     let m = c.loop-counter in
     let n = c.numbers_at-line in
-    let d = c.moved-1 in
+    let d = c.in-To in
     let i1 = c.if-budget-steps in
     let x = c.args in
     let p = c.requires in
     let t = c.loop-counter-test in
-    let e = (f.ensures.0 ∙ ap (λ (a : List ℕ). moves (lists_of m.sets) (listed m.bus) (line_by a) m.counter) n.ensures) in
-    let w = f.ensures.1.0 d.given.0.0 d.given.1 in
-    let v = f.ensures.1.1 d.given.0.0 d.given.1 in
+    let e = (f.ensures.value ∙ ap (λ (a : List ℕ). moves (lists_of m.sets) (listed m.bus) (line_by a) m.counter) n.ensures) in
+    let w = f.ensures.sets_after d.next d.is in
+    let v = f.ensures.bus_after d.next d.is in
     let r = v.0 ∙ ap (λ (a : List ℕ). leads (lists_of m.sets) (listed m.bus) (line_by a)) n.ensures in
     let s = w.0 ∙ ap (λ (a : List ℕ). onto (lists_of m.sets) (line_by a)) n.ensures in (
       omega (arith, i1.false),
@@ -62,7 +62,7 @@ loop-counter-preserved c =
       rw s (onto-full (lists_of m.sets) (line_at x.program.now m.counter) m.invariant.2),
       v.1,
       v.2,
-      goes_on x.program.now m.counter m.steps x.budget (lists_of m.sets) (listed m.bus) (omega (arith, p.0, t.true)) i1.false _ _ _ _ _ e d.given.1 s r m.invariant.2 m.invariant.3 m.invariant.5,
+      goes_on x.program.now m.counter m.steps x.budget (lists_of m.sets) (listed m.bus) (omega (arith, p.0, t.true)) i1.false _ _ _ _ _ e d.is s r m.invariant.2 m.invariant.3 m.invariant.5,
     )
 
 pub returns-in-Leaks : goal.returns-in-Leaks
@@ -72,10 +72,9 @@ returns-in-Leaks c =
     let p = c.requires in
     let t = c.loop-counter-test in
     let i1 = c.if-budget-steps in
-    let g = c.enum_told-1 in
     let f = c.step-moved in
     let n = c.numbers_at-line in
-    ends x.program.now m.counter m.steps x.budget (lists_of m.sets) (listed m.bus) (omega (arith, p.0, t.true)) i1.false _ _ (sym g.given.1 ∙ (f.ensures.0 ∙ ap (λ (a : List ℕ). moves (lists_of m.sets) (listed m.bus) (line_by a) m.counter) n.ensures)) refl ∙ m.invariant.5
+    ends x.program.now m.counter m.steps x.budget (lists_of m.sets) (listed m.bus) (omega (arith, p.0, t.true)) i1.false _ _ (sym c.in-Leaks.is ∙ (f.ensures.value ∙ ap (λ (a : List ℕ). moves (lists_of m.sets) (listed m.bus) (line_by a) m.counter) n.ensures)) refl ∙ m.invariant.5
 
 pub returns-in-Refuses : goal.returns-in-Refuses
 returns-in-Refuses c =
@@ -84,10 +83,9 @@ returns-in-Refuses c =
     let p = c.requires in
     let t = c.loop-counter-test in
     let i1 = c.if-budget-steps in
-    let d = c.moved-in-Refuses-1 in
     let f = c.step-moved in
     let n = c.numbers_at-line in
-    ends x.program.now m.counter m.steps x.budget (lists_of m.sets) (listed m.bus) (omega (arith, p.0, t.true)) i1.false _ _ (sym d.given.1 ∙ (f.ensures.0 ∙ ap (λ (a : List ℕ). moves (lists_of m.sets) (listed m.bus) (line_by a) m.counter) n.ensures)) refl ∙ m.invariant.5
+    ends x.program.now m.counter m.steps x.budget (lists_of m.sets) (listed m.bus) (omega (arith, p.0, t.true)) i1.false _ _ (sym c.in-Refuses.is ∙ (f.ensures.value ∙ ap (λ (a : List ℕ). moves (lists_of m.sets) (listed m.bus) (line_by a) m.counter) n.ensures)) refl ∙ m.invariant.5
 
 pub returns : goal.returns
 returns c =
