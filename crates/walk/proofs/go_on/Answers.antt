@@ -9,7 +9,6 @@ use Rattle.model.specs.Stored.{line_of}
 use Rattle.sets.specs.Walk.{listed, lists_of}
 use Rattle.choices.specs.Gathering.{line_by}
 use Rattle.walk.proofs.StepLaws.{leads_some, went, went_heads}
-use borrow.Author.Rules.{rules}
 use Rattle.walk.proofs.go_on.Goals as goal
 
 -- where a line goes does not turn on its destination

@@ -1,12 +1,9 @@
 -- `walk::is_sized` meets its contract. The loop's invariant: the counts that are left are right exactly where all are. Assumes nothing.
-use mathlib.Core.Path.{◌≡◌, refl, sym, ◌∙◌}
+use mathlib.Core.Path.{◌≡◌}
 use Prim.Native.Nat.{◌*◌, ◌-◌, ◌≤◌}
-use native.Mathlib.Omega.{arith}
 use lib.ListN.{drop}
 use Rattle.model.specs.Limits.{state_size}
 use Rattle.sets.specs.Walk.{set_width, sized}
-use Rattle.choices.proofs.Turns.{sized_empty, sized_long, sized-next, sized-over}
-use borrow.Author.Rules.{rules}
 use Rattle.walk.proofs.is_sized.Given as goal
 
 abbrev pub invariant-loop-i : goal.invariant-loop-i

@@ -6,7 +6,6 @@ use Rattle.model.specs.declared.Mark.{Mark}
 use Rattle.model.specs.declared.Line.{Line}
 use Rattle.sets.specs.Walk.{Sets, lists_of, values, several, base, branches, loose, unsettled}
 use Rattle.choices.specs.Gathering.{line_by}
-use borrow.Author.Rules.{rules}
 use Rattle.walk.proofs.is_unsettled.Goals as goal
 
 module _ (S : Sets) (l : Line) where

@@ -1,18 +1,11 @@
 -- `walk::walk_lines` meets its contract. The loop's invariant: what is left of the walk gives the same verdict as the whole. Assumes nothing.
-use mathlib.Core.Path.{◌≡◌, refl, sym, ap, ◌∙◌}
-use mathlib.Core.List.{List, [], ◌∷◌}
-use Prim.Native.Nat.{ℕ, ◌-◌, ◌≤◌, ◌<◌}
-use native.Mathlib.Omega.{arith}
+use mathlib.Core.Path.{◌≡◌}
+use mathlib.Core.List.{[], ◌∷◌}
+use Prim.Native.Nat.{◌-◌, ◌≤◌, ◌<◌}
 use lib.ListN.{length, get_or}
-use Rattle.model.specs.Stored.{lines, line_at}
-use Rattle.sets.specs.Walk.{max_values, listed, lists_of, heads, onto, walk}
-use Rattle.sets.specs.Addresses.{leads}
+use Rattle.model.specs.Stored.{lines}
+use Rattle.sets.specs.Walk.{max_values, listed, lists_of, heads, walk}
 use Rattle.sets.specs.Claims.{Full}
-use Rattle.choices.specs.Gathering.{line_by}
-use Rattle.walk.specs.Moves.{moves}
-use Rattle.sets.proofs.Sound.{onto-full}
-use Rattle.walk.proofs.WalkLaws.{begins, spends, balances, ends, goes_on}
-use borrow.Author.Rules.{rules}
 use Rattle.walk.proofs.walk_lines.Given as goal
 
 abbrev pub invariant-loop-counter : goal.invariant-loop-counter
