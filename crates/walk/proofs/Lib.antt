@@ -1,2 +1,3 @@
+pub mod Gathers
 pub mod StepLaws
 pub mod WalkLaws

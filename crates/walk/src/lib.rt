@@ -130,8 +130,8 @@ fn step(
 ) -> Move
     requires { (counter < 65535) × (state.old ≡ heads (lists_of sets.old)) × Full (lists_of sets.old) × (0 < length (listed bus.old)) × (get_or bus.old 0 0 ≤ max_values) × Weights weights.now }
     ensures value { result ≡ moves (lists_of sets.old) (listed bus.old) (line_by line.now) counter }
-    ensures by_index { (n : ℕ) → result ≡ To n → (lists_of sets.new ≡ onto (lists_of sets.old) (line_by line.now)) × (state.new ≡ heads (lists_of sets.new)) }
-    ensures by_index_2 { (n : ℕ) → result ≡ To n → (listed bus.new ≡ leads (lists_of sets.old) (listed bus.old) (line_by line.now)) × (0 < length (listed bus.new)) × (get_or bus.new 0 0 ≤ max_values) }
+    ensures sets_after { (n : ℕ) → result ≡ To n → (lists_of sets.new ≡ onto (lists_of sets.old) (line_by line.now)) × (state.new ≡ heads (lists_of sets.new)) }
+    ensures bus_after { (n : ℕ) → result ≡ To n → (listed bus.new ≡ leads (lists_of sets.old) (listed bus.old) (line_by line.now)) × (0 < length (listed bus.new)) × (get_or bus.new 0 0 ≤ max_values) }
 {
     if is_unsettled(line, sets, state) {
         return Move::Refuses(21);

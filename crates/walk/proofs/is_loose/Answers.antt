@@ -16,8 +16,7 @@ use Rattle.model.proofs.Operands.{kind-place}
 use Rattle.sets.specs.Walk.{Sets, set_width, max_values, listed, lists_of, values, distinct, several, heads, base, meanings, loose}
 use Rattle.choices.proofs.SetBytes.{listed-few}
 use borrow.Author.Rules.{rules}
-use Rattle.walk.proofs.is_loose.Statement.{statement}
-use Rattle.walk.proofs.is_loose.Tie as tie
+use Rattle.walk.proofs.is_loose.Goals as goal
 
 module _ (S : Sets) (m : Mark) (o : Operand) where
   by-base : several (values S (base o)) ≡ true → true ≡ loose S m o
@@ -36,41 +35,20 @@ module _ (S : Sets) (m : Mark) (o : Operand) where
   unfolding loose
   by_place u b l h e = rw b (ap (λ (n : ℕ). ltb 1 n) (sym (listed-few u set_width l (omega arith)) ∙ ap length e))
 
-base-of-requires : tie.Need-base-of-requires
-base-of-requires c κs = search rules
+pub is_several-requires : goal.is_several-requires
+is_several-requires c = c.requires.0
 
-is-several-requires : tie.Need-is-several-requires
-is-several-requires c κs = c.before.before.before.requires.0
+pub returns-then-is_several : goal.returns-then-is_several
+returns-then-is_several c =
+    let S = lists_of c.args.sets.now in
+    by-base S _ (operand_of c.args.code) (ap (λ (i : ℕ). several (values S i)) (sym c.base_of.ensures) ∙ sym c.is_several.ensures ∙ c.if-is_several.true)
 
-returns : tie.Need-returns
+pub distinct_at-meant-requires : goal.distinct_at-meant-requires
+distinct_at-meant-requires c = c.requires.0
+
+pub returns : goal.returns
 returns c =
-    let S = lists_of c.before.before.before.before.before.args.sets.now in
-    by-base S _ (operand_of c.before.before.before.before.before.args.code) (ap (λ (i : ℕ). several (values S i)) (sym c.before.before.base-of.ensures) ∙ sym c.before.is-several.ensures ∙ c.if1.true)
-
-place-at-requires : tie.Need-place-at-requires
-place-at-requires c κs = search rules
-
-distinct-at-requires : tie.Need-distinct-at-requires
-distinct-at-requires c κs = c.before.before.before.before.before.before.requires.0
-
-array-read-result : tie.Need-array-read-result
-array-read-result c = search rules
-
-returns-2 : tie.Need-returns-2
-returns-2 c =
-    let S = lists_of c.before.before.before.before.before.before.before.args.sets.now in
-    let d = c.distinct-at in
-    by_place S _ (operand_of c.before.before.before.before.before.before.before.args.code) d.result (ap (λ (i : ℕ). several (values S i)) (sym c.before.before.before.before.base-of.ensures) ∙ sym c.before.before.before.is-several.ensures ∙ c.before.before.if1.false)
-    (search rules) d.ensures.1 (meant S _ (operand_of c.before.before.before.before.before.before.before.args.code) _ _ d.result c.before.before.before.before.before.before.before.requires.1 c.before.place_at.ensures d.ensures.0)
-
-pub is-loose-spec : {M : Type 1} → statement M
-is-loose-spec =
-    tie.close
-    (tie.spec
-    base-of-requires
-    is-several-requires
-    returns
-    place-at-requires
-    distinct-at-requires
-    array-read-result
-    returns-2)
+    let S = lists_of c.args.sets.now in
+    let d = c.distinct_at-meant in
+    by_place S _ (operand_of c.args.code) d.result (ap (λ (i : ℕ). several (values S i)) (sym c.base_of.ensures) ∙ sym c.is_several.ensures ∙ c.if-is_several.false)
+    (search rules) d.ensures.1 (meant S _ (operand_of c.args.code) _ _ d.result c.requires.1 c.place_at.ensures d.ensures.0)
