@@ -7,8 +7,7 @@ use lib.IntN.{pos, ◌-ℤ◌}
 use mir.Syntax.{w16}
 use mir.Val.{SFits, to_z}
 use mir.ValLaws.{to_z_pos}
-use Rattle.edges.proofs.notation.weight.Statement.{statement}
-use Rattle.edges.proofs.notation.weight.Tie as tie
+use Rattle.edges.proofs.notation.weight.Goals as goal
 
 negative_fits : (n : ℕ) → n < 32768 → SFits w16 (pos 0 -ℤ to_z w16 n)
 negative_fits n h = rw (to_z_pos w16 n h) (go n h)
@@ -17,14 +16,5 @@ negative_fits n h = rw (to_z_pos w16 n h) (go n h)
     go zero h = record { sfits = omega arith }
     go (suc n) h = rw (lt-ltb 0 (suc n) (omega arith)) (record { sfits = omega arith })
 
-pub weight-spec : {M : Type 1} → statement M
-weight-spec =
-    tie.close
-    (tie.spec
-    (λ c κs. search rules)
-    (λ c κs. search rules)
-    (λ c. search rules)
-    (λ c κs. search rules)
-    (λ c. negative_fits c.before.before.least.result (omega (arith, c.before.before.least.ensures)))
-    (λ c. search rules)
-    (λ c. search rules))
+pub overflow_sub-result : goal.overflow_sub-result
+overflow_sub-result c = negative_fits c.least-size.result (omega (arith, c.least-size.ensures))
