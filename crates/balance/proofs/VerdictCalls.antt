@@ -12,7 +12,7 @@ use Rattle.model.specs.declared.Answer.{Answer}
 use Rattle.model.specs.declared.Answer.TheVariants.{Count, Halted, Spent, Refused}
 use Rattle.model.specs.Places.{State}
 use Rattle.model.specs.Stored.{lines, program_check}
-use Rattle.model.specs.Run.{run, answer, run_outcome}
+use Rattle.model.specs.Run.{run, run_outcome}
 use Rattle.model.proofs.OutcomeLaws.{never_done, run_outcome_lem}
 use Rattle.model.proofs.CheckAnswers.{CountOrRefusal, counts, refuses, program_answers, expand_answers, NoCount, Refusal, no_count_refuses}
 use Rattle.sets.specs.declared.Verdict.{Verdict}

@@ -2,11 +2,7 @@
 use Prim.Native.Nat.{ℕ, ◌*◌}
 use lib.ListN.{length-replicate}
 use Rattle.model.specs.Limits.{line_width, max_lines}
-use Rattle.verdicts.proofs.lines_room.Statement.{statement}
-use Rattle.verdicts.proofs.lines_room.Tie as tie
+use Rattle.verdicts.proofs.lines_room.Goals as goal
 
-returns : tie.Need-returns
+pub returns : goal.returns
 returns c = length-replicate {A = ℕ} (line_width * max_lines) 0
-
-pub lines-room-spec : {M : Type 1} → statement M
-lines-room-spec = tie.close (tie.spec returns)
