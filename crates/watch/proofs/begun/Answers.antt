@@ -6,7 +6,7 @@ use Rattle.watch.proofs.CoveredLaws.{not_begun}
 use Rattle.watch.proofs.begun.Goals as goal
 
 pub returns-in_default : goal.returns-in_default
-returns-in_default c = not_begun c.args.checked _ c.in_default.in_default-own.keys2
+returns-in_default c = not_begun c.args.checked _ c.in_default.not-Count
 
 pub returns : goal.returns
 returns c = ap (λ (a : Answer). begun a c.args.start) (sym c.in-Count.is)

@@ -7,7 +7,7 @@ pub returns-then-step-eq0 : goal.returns-then-step-eq0
 returns-then-step-eq0 c = fresh c.args.state.now c.args.place c.args.step c.args.w _ c.if-step-eq0.true c.read.ensures
 
 pub returns-then-at-place : goal.returns-then-at-place
-returns-then-at-place c = reached c.args.state.now c.args.place c.args.step c.args.w _ _ c.if-step-eq0.false c.if-at-place.true c.read-then-at-place.ensures c.wrapping_add_u16.ensures
+returns-then-at-place c = reached c.args.state.now c.args.place c.args.step c.args.w _ _ c.if-step-eq0.false c.if-at-place.true c.read-then-at-place.ensures c.wrapping_add_u16.ensures.value
 
 pub returns : goal.returns
 returns c = passed c.args.state.now c.args.place c.args.step c.args.w c.if-step-eq0.false c.if-at-place.false
