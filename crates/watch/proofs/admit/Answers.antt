@@ -1,7 +1,7 @@
 -- `watch::admit` meets its contract: a refusal of the run, 26, and the count. Assumes nothing.
 use Rattle.model.proofs.CheckAnswers.{count-told}
 use Rattle.watch.proofs.CoveredLaws.{no_run, no_watches, passes}
-use Rattle.std.proofs.Common.{◌∙◌, rules}
+use Rattle.std.proofs.Common.{◌∙◌}
 use Rattle.watch.proofs.admit.Goals as goal
 
 pub returns-in_default : goal.returns-in_default

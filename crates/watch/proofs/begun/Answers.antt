@@ -1,5 +1,5 @@
 -- `watch::begun` meets its contract: a refused run, and one that goes on. Assumes nothing.
-use Rattle.std.proofs.Common.{sym, ap, rules}
+use Rattle.std.proofs.Common.{sym, ap}
 use Rattle.model.specs.declared.Answer.{Answer}
 use Rattle.watch.specs.Turns.{begun}
 use Rattle.watch.proofs.CoveredLaws.{not_begun}

@@ -32,8 +32,8 @@ loop-i-preserved c =
     let m = c.loop-i in
     let f = noted a.state.now a.place a.step in
     elim c.if-concerns.branch [
-      then-concerns w ↦ changed f m.i a.watches.now m.watches _ m.invariant.1 c.loop-i-test.true w.noted.result w.noted.ensures w.watches-is
-    | else-concerns w ↦ same f m.i a.watches.now m.watches _ m.invariant.1 c.loop-i-test.true (unconcerned a.state.now a.place a.step (get_or m.watches m.i nowhere) (sym c.concerns.ensures ∙ w.if-concerns.false)) w.watches-is
+      | then-concerns w ↦ changed f m.i a.watches.now m.watches _ m.invariant.1 c.loop-i-test.true w.noted.result w.noted.ensures w.watches-is
+      | else-concerns w ↦ same f m.i a.watches.now m.watches _ m.invariant.1 c.loop-i-test.true (unconcerned a.state.now a.place a.step (get_or m.watches m.i nowhere) (sym c.concerns.ensures ∙ w.if-concerns.false)) w.watches-is
     ]
 
 pub returns : goal.returns

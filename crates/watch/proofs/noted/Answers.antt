@@ -1,6 +1,5 @@
 -- `watch::noted` meets its contract: before the first step, a write that reached the watch, and one that did not. Assumes nothing.
 use Rattle.watch.proofs.CoveredLaws.{fresh, reached, passed}
-use Rattle.std.proofs.Common.{rules}
 use Rattle.watch.proofs.noted.Goals as goal
 
 pub returns-then-step-eq0 : goal.returns-then-step-eq0

@@ -1,13 +1,11 @@
 -- `watch::run_watched` meets its contract: the laws of proofs/WatchLaws say that the run stands at the first moment, and that each turn keeps it so
 -- and lets `fuel` fall. Assumes nothing.
-use Rattle.std.proofs.Common.{◌≡◌, ℕ, ◌<◌, ◌^◌, Bool, List, [], ◌∷◌, map, length, sym, ap, ◌∙◌, subst, arith, lit<}
+use Rattle.std.proofs.Common.{ℕ, ◌<◌, Bool, List, length, sym, ap, ◌∙◌, subst, arith, lit<}
 use Rattle.model.specs.declared.Answer.{Answer}
 use Rattle.model.specs.declared.Answer.TheVariants.{Count, Halted, Spent, Refused}
-use Rattle.model.specs.Answers.{Report, outcome}
 use Rattle.machine.specs.Loop.{addresses}
 use Rattle.watch.specs.declared.Watch.{Watch}
 use Rattle.watch.specs.declared.Turn.{Turn}
-use Rattle.watch.specs.Watches.{both}
 use Rattle.watch.specs.Turns.{admission, begun}
 use Rattle.watch.proofs.WatchLaws.{Stands, begins_at, goes_to_lem}
 use Rattle.watch.proofs.run_watched.Goals as goal

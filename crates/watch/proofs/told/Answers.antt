@@ -1,5 +1,4 @@
 -- `watch::told` meets its contract: a refusal, spent and halted. Assumes nothing.
-use Rattle.std.proofs.Common.{rules}
 use Rattle.watch.proofs.CoveredLaws.{handed_on, says_spent, says_halted}
 use Rattle.watch.proofs.told.Goals as goal
 

@@ -1,5 +1,5 @@
 -- `watch::turned` meets its contract: the end, and a step. Assumes nothing.
-use Rattle.std.proofs.Common.{◌<◌, arith, rules}
+use Rattle.std.proofs.Common.{◌<◌, arith}
 use Rattle.watch.proofs.CoveredLaws.{Ends, halts, spends, steps}
 use Rattle.watch.proofs.turned.Goals as goal
 use Rattle.watch.proofs.turned.Goals.{then-program-counter-via-then-program-counter, then-program-counter-via-else-program-counter+then-budget-steps}

@@ -1,5 +1,5 @@
 -- `watch::unwatchable` meets its contract: the watches one by one, and the list. Assumes nothing.
-use Rattle.std.proofs.Common.{◌≡◌, ℕ, ◌+◌, ◌<◌, ◌≤◌, Bool, ◌||◌, ltb, leb, List, length, get_or, sym, ap, ◌∙◌, arith}
+use Rattle.std.proofs.Common.{◌≡◌, ℕ, ◌+◌, ◌<◌, Bool, ◌||◌, ltb, leb, List, length, get_or, sym, ap, ◌∙◌, arith}
 use Rattle.model.specs.Limits.{state_size}
 use Rattle.watch.specs.declared.Watch.{Watch}
 use Rattle.watch.specs.Watches.{max_watches, unwatchable}
