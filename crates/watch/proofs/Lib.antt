@@ -3,5 +3,3 @@ pub mod Writes
 pub mod WatchLaws
 pub mod WatchClaims
 pub mod Rows
-pub mod Again
-pub mod ArrayLent

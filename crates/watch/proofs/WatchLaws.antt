@@ -102,7 +102,7 @@ module _ (p : List ℕ) (start budget : ℕ) (s t : List ℕ) (ws : List Watch) 
 abbrev pub fuel : ℕ → Turn → ℕ
 fuel budget t = cond t.going (suc (budget - t.steps)) 0
 
-module _ (p : List ℕ) (start budget : ℕ) (s₀ t₀ : List ℕ) (ws₀ : List Watch) (small : budget < 2 ^ 16) (checked : Answer) where
+module _ (p : List ℕ) (start budget : ℕ) (s₀ t₀ : List ℕ) (ws₀ : List Watch) (checked : Answer) where
   -- the run goes on: what is left of it gives the whole one's outcome, places and state, and once the last step is noted the watches are up to
   -- date
   pub record Going (t : Turn) (s tr : List ℕ) (ws : List Watch) : Type 0 where
@@ -158,7 +158,7 @@ module _ (p : List ℕ) (start budget : ℕ) (s₀ t₀ : List ℕ) (ws₀ : Lis
           (ap (λ (c : Answer). both (outcome (told c (begun (Refused i j) start)) (s₀ ∷ t₀ ∷ [])) ws₀) a ∙ turned_down p start budget s₀ t₀ ws₀ i j (sym (ap report a) ∙ e))
 
   -- from moment to moment
-  module _ (t : Turn) (s tr : List ℕ) (ws : List Watch) (i : Going t s tr ws) where
+  module _ (t : Turn) (s tr : List ℕ) (ws : List Watch) (small : budget < 2 ^ 16) (i : Going t s tr ws) where
     abbrev m : Moment
     m = moment t s tr
 

@@ -1,6 +1,5 @@
 // Request 09 of document 02: a list of up to eight watches, each naming a place, is lent to a run and brought up to date after each step.
-// The list is a slice of structs: what is done to one watch is `noted`, and the few functions over the slice are proved by hand. Callers
-// with the places alone have `watch_places`.
+// The list is a slice of structs, and what is done to one watch is `noted`. Callers with the places alone have `watch_places`.
 
 #![tactic(auto)]
 

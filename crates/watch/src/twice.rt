@@ -27,8 +27,8 @@ pub fn run_twice(
     lone: &mut [u8],
     rows: &mut [u16],
 ) -> Twice
-    ensures watches_after { both (outcome (report result.seen.answer) (state.new ∷ trace.new ∷ [])) result.seen.watches ≡ watch_outcome program.now start budget state.old trace.old (map unused places) }
-    ensures rows_after { outcome (report result.alone) (lone.new ∷ rows.new ∷ []) ≡ run_outcome program.now start budget lone.old rows.old }
+    ensures watched { both (outcome (report result.seen.answer) (state.new ∷ trace.new ∷ [])) result.seen.watches ≡ watch_outcome program.now start budget state.old trace.old (map unused places) }
+    ensures alone { outcome (report result.alone) (lone.new ∷ rows.new ∷ []) ≡ run_outcome program.now start budget lone.old rows.old }
     ensures same_calls { SameCalls places (state.old ∷ trace.old ∷ []) (lone.old ∷ rows.old ∷ []) (outcome (report result.seen.answer) (state.new ∷ trace.new ∷ [])) (outcome (report result.alone) (lone.new ∷ rows.new ∷ [])) }
 {
     let seen = watch_places(program, start, budget, state, trace, places);

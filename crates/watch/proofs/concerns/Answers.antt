@@ -1,5 +1,5 @@
 -- `watch::concerns` meets its contract. Assumes nothing.
-use Rattle.std.proofs.Common.{rules, eq-eqb, ne_eqb}
+use Rattle.std.proofs.Common.{eq-eqb, ne_eqb}
 use Rattle.watch.proofs.concerns.Goals as goal
 
 pub returns-then-step-eq0 : goal.returns-then-step-eq0

@@ -1,5 +1,4 @@
 -- `watch::or_past` meets its contract. Assumes nothing.
-use Rattle.std.proofs.Common.{rules}
 use Rattle.watch.proofs.or_past.Goals as goal
 
 pub returns-else-found : goal.returns-else-found
