@@ -1,21 +1,18 @@
 -- What stands at a position of a text, and the text after its line. Assumes nothing.
 use Prim.Native.Nat.{ℕ, ◌+◌, ◌-◌, ◌≤◌, ◌<◌}
-use mathlib.Core.Path.{◌≡◌, refl, sym, ap, ap₂, ◌∙◌}
+use mathlib.Core.Path.{◌≡◌, refl, sym, ap, ◌∙◌}
 use mathlib.Core.List.{List, [], ◌∷◌}
 use mathlib.Core.Option.{none, some}
 use native.Mathlib.Omega.{arith}
 use lib.ListN.{length, drop, take, drop_of_length-le}
 use lib.Seq.{drop-drop, drop-length}
 use borrow.Author.Tests.{eq-eqb, ne_eqb}
-use denote.Ref.{Bor}
 use Rattle.model.specs.Text.{newline, up_to, past, front_line}
 use Rattle.model.specs.Stored.{Parsed}
 use Rattle.text.specs.declared.Parsed.{Parsed as Got}
 use Rattle.text.specs.Lines.{meaning}
 use Rattle.text.proofs.PartLaws.{rest_all, after_first}
-use Rattle.lines.specs.Reading.{front_step, Front, front_of, step_meaning, taken_meaning, left}
-use Rattle.lines.specs.declared.reader.Reader.{Reader}
-use Rattle.lines.specs.declared.reader.Step.{Step}
+use Rattle.lines.specs.Reading.{front_step, Front, front_of, step_meaning, taken_meaning}
 use Rattle.lines.specs.declared.reader.Step.TheVariants.{End, Line}
 use Rattle.lines.specs.declared.reader.Taken.{Taken}
 
@@ -45,18 +42,6 @@ module _ (c : ℕ) (s : List ℕ) (at n : ℕ) (e : n ≡ length (up_to c (take 
   -- there is none
   pub past_none : length s ≤ at + n + 1 → drop (length s) s ≡ past c (drop at s)
   past_none h = drop-length s ∙ sym (drop_of_length-le s h) ∙ past-found
-
--- ---- a reader made at a position, what it finds there, and the reader past it
-
-module _ (s : Bor (List ℕ)) (n : ℕ) (r moved : Reader) (t : Step) where
-  pub taken-front : (r.text ≡ s) × (r.at ≡ n) → step_meaning t ≡ front_step (left r) → (moved.text ≡ r.text) × (left moved ≡ past newline (left r))
-      → taken_meaning s.now (record { step = t; at = moved.at }) ≡ front_of (drop n s.now)
-  taken-front made found on =
-      let l : left r ≡ drop n s.now = ap₂ (λ (i : ℕ) (x : Bor (List ℕ)). drop i x.now) made.1 made.0 in
-      let rest : drop moved.at s.now ≡ past newline (drop n s.now) =
-      ap (λ (x : Bor (List ℕ)). drop moved.at x.now) (sym (on.0 ∙ made.0)) ∙ on.1 ∙ ap (past newline) l in
-      let step : step_meaning t ≡ front_step (drop n s.now) = found ∙ ap front_step l in
-      λ i. record { step = step i; rest = rest i }
 
 -- ---- what an answer tells of the text
 
