@@ -29,10 +29,7 @@ fn output_room() -> [u8; OUTPUT_ROOM]
 
 fn main(rt: HostRuntime) -> io::Result<()> {
     let mut input = input_room();
-    let n = io::copy(
-        &mut rt.stdin().take(INPUT_ROOM as u64),
-        &mut &mut input[..],
-    )?;
+    let n = io::copy(&mut rt.stdin().take(INPUT_ROOM as u64), &mut &mut input[..])?;
     let mut output = output_room();
     let answer = filters::print_sent(&input[..INPUT_ROOM.min(n as usize)], &mut output);
     // The room is enough for every text (proofs/FilterLaws of filters), so 17 is never answered.

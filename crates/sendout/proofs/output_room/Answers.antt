@@ -2,11 +2,7 @@
 use Prim.Native.Nat.{ℕ}
 use lib.ListN.{length-replicate}
 use Rattle.filters.specs.Filters.{sent_bytes}
-use Rattle.sendout.proofs.output_room.Statement.{statement}
-use Rattle.sendout.proofs.output_room.Tie as tie
+use Rattle.sendout.proofs.output_room.Goals as goal
 
-returns : tie.Need-returns
+pub returns : goal.returns
 returns c = length-replicate {A = ℕ} sent_bytes 0
-
-pub output-room-spec : {M : Type 1} → statement M
-output-room-spec = tie.close (tie.spec returns)

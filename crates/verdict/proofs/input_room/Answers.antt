@@ -2,11 +2,7 @@
 use Prim.Native.Nat.{ℕ, ◌+◌}
 use lib.ListN.{length-replicate}
 use Rattle.verdicts.specs.Verdicts.{verdict_size}
-use Rattle.verdict.proofs.input_room.Statement.{statement}
-use Rattle.verdict.proofs.input_room.Tie as tie
+use Rattle.verdict.proofs.input_room.Goals as goal
 
-returns : tie.Need-returns
+pub returns : goal.returns
 returns c = length-replicate {A = ℕ} (verdict_size + 1) 0
-
-pub input-room-spec : {M : Type 1} → statement M
-input-room-spec = tie.close (tie.spec returns)

@@ -2,11 +2,7 @@
 use Prim.Native.Nat.{ℕ}
 use lib.ListN.{length-replicate}
 use Rattle.programs.specs.Sizes.{expansion_bytes}
-use Rattle.expand.proofs.output_room.Statement.{statement}
-use Rattle.expand.proofs.output_room.Tie as tie
+use Rattle.expand.proofs.output_room.Goals as goal
 
-returns : tie.Need-returns
+pub returns : goal.returns
 returns c = length-replicate {A = ℕ} expansion_bytes 0
-
-pub output-room-spec : {M : Type 1} → statement M
-output-room-spec = tie.close (tie.spec returns)
