@@ -185,7 +185,7 @@ pub extern "C" fn dualrail_run(
     pack_run(machine::run(program, start, budget, state, trace))
 }
 
-// The watches cross as they are: a slice of C structs. What is proved of the call is proved by hand, as in `watch`.
+// The watches cross as they are: a slice of C structs.
 #[unsafe(no_mangle)]
 pub extern "C" fn dualrail_run_watched(
     program: &[u16],

@@ -2,7 +2,6 @@
 -- Assumes nothing.
 use mathlib.Core.Path.{ap, ◌∙◌}
 use Rattle.dualrail.specs.Packing.{packed}
-use borrow.Author.Rules.{rules}
 use Rattle.dualrail.proofs.dualrail_check.Goals as goal
 
 pub returns : goal.returns

@@ -1,7 +1,6 @@
 -- `dualrail::dualrail_judge` meets its contract: the verdict, packed. Assumes nothing.
 use mathlib.Core.Path.{ap, ◌∙◌}
 use Rattle.dualrail.specs.Packing.{packed_run}
-use borrow.Author.Rules.{rules}
 use Rattle.dualrail.proofs.dualrail_judge.Goals as goal
 
 pub returns : goal.returns

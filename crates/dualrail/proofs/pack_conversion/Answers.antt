@@ -1,6 +1,5 @@
 -- `dualrail::pack_conversion` meets its contract. Assumes nothing.
 use Rattle.dualrail.proofs.Told.{any_line}
-use borrow.Author.Rules.{rules}
 use Rattle.dualrail.proofs.pack_conversion.Goals as goal
 
 pub returns-in-Refused : goal.returns-in-Refused

@@ -1,7 +1,6 @@
 -- `dualrail::pack_run` meets its contract. An arm for each answer; the zeros of an ending add nothing.
 -- Assumes nothing.
 use native.Mathlib.Omega.{arith}
-use borrow.Author.Rules.{rules}
 use Rattle.dualrail.proofs.pack_run.Goals as goal
 
 pub returns-in-Count : goal.returns-in-Count

@@ -1,7 +1,6 @@
 -- `dualrail::pack_verdict` meets its contract. An arm for each verdict; the zeros of an ending add nothing.
 -- Assumes nothing.
 use native.Mathlib.Omega.{arith}
-use borrow.Author.Rules.{rules}
 use Rattle.dualrail.proofs.pack_verdict.Goals as goal
 
 pub returns-in-Balanced : goal.returns-in-Balanced
