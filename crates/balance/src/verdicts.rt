@@ -63,7 +63,7 @@ pub fn judged_expansion(
 ) -> JudgedExpansion
     ensures out_after { outcome (report result.expanded) (out.new ∷ []) ≡ expand_outcome position spacing program.now out.old }
     ensures verdict_value { told result.verdict ≡ verdict_on (report result.expanded) out.new sets.now budget }
-    ensures by_index { (n : ℕ) → report result.expanded ≡ counted n → Images (layout_of position spacing) sets.now → Clear (told result.verdict) }
+    ensures never_alarms { (n : ℕ) → report result.expanded ≡ counted n → Images (layout_of position spacing) sets.now → Clear (told result.verdict) }
 {
     let expanded = expander::expand(position, spacing, program, out);
     let Answer::Count(count) = expanded else {

@@ -10,7 +10,7 @@ returns-in_default c =
     let x = c.args in
     let e = c.expand-expanded in
     let n = c.in_default.not-Count in
-    record { out_after = e.ensures; verdict_value = refusal_on x.position x.spacing x.program.now x.out.now _ e.result e.ensures n x.sets.now x.budget _ c.refusal_of.ensures; by_index = λ k w I. absurd (not_counted x.position x.spacing x.program.now x.out.now _ e.result e.ensures n k w) }
+    record { out_after = e.ensures; verdict_value = refusal_on x.position x.spacing x.program.now x.out.now _ e.result e.ensures n x.sets.now x.budget _ c.refusal_of.ensures; never_alarms = λ k w I. absurd (not_counted x.position x.spacing x.program.now x.out.now _ e.result e.ensures n k w) }
 
 pub slice_bounds-judge-end : goal.slice_bounds-judge-end
 slice_bounds-judge-end c =
@@ -29,4 +29,4 @@ returns c =
     let x = c.args in
     let e = c.expand-expanded in
     let j = c.judge-verdict in
-    record { out_after = counted_call x.position x.spacing x.program.now x.out.now _ e.result e.ensures c.in-Count.count c.in-Count.is; verdict_value = j.ensures; by_index = λ k _ I. clear_on x.position x.spacing x.program.now x.out.now _ e.result e.ensures c.in-Count.count c.in-Count.is x.sets.now x.budget _ j.ensures I }
+    record { out_after = counted_call x.position x.spacing x.program.now x.out.now _ e.result e.ensures c.in-Count.count c.in-Count.is; verdict_value = j.ensures; never_alarms = λ k _ I. clear_on x.position x.spacing x.program.now x.out.now _ e.result e.ensures c.in-Count.count c.in-Count.is x.sets.now x.budget _ j.ensures I }
