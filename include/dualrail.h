@@ -1,6 +1,6 @@
 /* Dual-rail expander and trace machine: the proved library, for C.
  *
- * Build target/staticlib/libdualrail.a with `rt staticlib dualrail` and link it. Nothing allocates and nothing outside the lent memory is
+ * Build crates/dualrail/out/libdualrail.a with `rt lib` in crates/dualrail and link it. Nothing allocates and nothing outside the lent memory is
  * touched; an empty slice may have any pointer. The slices of one call must not overlap. Lengths count elements. docs/STORED-LINES.md
  * lays down the numbers of a stored line, docs/LANGUAGE.md lists the refusals.
  *

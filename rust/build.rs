@@ -1,5 +1,5 @@
 //! Compiles the plain C that the benchmark measures against, and links the
-//! static library that `rt staticlib dualrail` leaves in the top folder.
+//! static library that `rt lib` leaves in the folder of the crate dualrail.
 
 use std::env;
 use std::path::Path;
@@ -37,12 +37,12 @@ fn main() {
 
     if env::var_os("CARGO_FEATURE_NO_LIBRARY").is_none() {
         let here = env::var("CARGO_MANIFEST_DIR").unwrap();
-        let folder = Path::new(&here).join("../target/staticlib");
+        let folder = Path::new(&here).join("../crates/dualrail/out");
         let library = folder.join("libdualrail.a");
         println!("cargo:rerun-if-changed={}", library.display());
         assert!(
             library.exists(),
-            "target/staticlib/libdualrail.a is missing: run `rt staticlib dualrail` in the top folder first"
+            "crates/dualrail/out/libdualrail.a is missing: run `rt lib` in crates/dualrail first"
         );
         println!("cargo:rustc-link-search=native={}", folder.display());
         println!("cargo:rustc-link-lib=static=dualrail");

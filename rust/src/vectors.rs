@@ -18,7 +18,7 @@ pub const IN_FORCE: u32 = 11;
 /// What the cases are called on.
 pub struct Tested<'a> {
     pub library: &'a dyn Dualrail,
-    /// The folder of the two programs.
+    /// The folder with the crates of the two programs.
     pub programs: &'a Path,
     /// Requests in force.
     pub in_force: u32,
@@ -368,6 +368,6 @@ mod tests {
         let mut reports = String::new();
         let lines = "call print-trace\ntext \"\"\nanswer printed 9\nout \"halted,0\\n\"\n";
         assert_eq!(tally(&case(lines), &mut |report| reports += &report), Tally { cases: 1, differ: 1 });
-        assert!(reports.contains("rt check expand trace"), "{reports}");
+        assert!(reports.contains("crates/expand and crates/trace"), "{reports}");
     }
 }

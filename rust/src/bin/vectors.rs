@@ -6,7 +6,7 @@ use std::path::Path;
 use std::process::ExitCode;
 
 fn main() -> ExitCode {
-    let programs = Path::new(env!("CARGO_MANIFEST_DIR")).join("../target/bin");
+    let programs = Path::new(env!("CARGO_MANIFEST_DIR")).join("../crates");
     let tested = Tested { library: &Library, programs: &programs, in_force: IN_FORCE };
     let mut whole = Tally::default();
     for path in std::env::args_os().skip(1) {

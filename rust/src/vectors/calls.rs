@@ -476,7 +476,7 @@ fn print(tested: &Tested, case: &Case) -> Result<Called, String> {
     };
     let text = case.text("text")?.ok_or("`text` is missing")?;
     let expected = case.one("answer")?.to_string();
-    let printed = output(&tested.programs.join(name), &text)?;
+    let printed = output(&tested.programs.join(name).join("out").join(name), &text)?;
     let right = match expected.strip_prefix("refused ") {
         Some(refusal) => printed == format!("refused,{}\n", refusal.replace(' ', ",")).as_bytes(),
         None => {
@@ -495,7 +495,7 @@ fn print(tested: &Tested, case: &Case) -> Result<Called, String> {
 fn output(program: &Path, input: &[u8]) -> Result<Vec<u8>, String> {
     let shown = program.display();
     if !program.exists() {
-        return Err(format!("{shown} is missing: run `rt check expand trace` in the top folder first"));
+        return Err(format!("{shown} is missing: run `rt run` in crates/expand and crates/trace first"));
     }
     let failed = |what: &str, error: std::io::Error| format!("{shown} {what}: {error}");
     let mut child = Command::new(program)
@@ -524,6 +524,6 @@ mod tests {
         assert_eq!(output(Path::new("/bin/cat"), b"a\n\xff"), Ok(b"a\n\xff".to_vec()));
         // Not read to the end.
         assert_eq!(output(Path::new("/bin/true"), &[0; 1 << 20]), Ok(vec![]));
-        assert!(output(Path::new("/nowhere/expand"), b"").unwrap_err().contains("rt check expand trace"));
+        assert!(output(Path::new("/nowhere/expand"), b"").unwrap_err().contains("crates/expand and crates/trace"));
     }
 }
