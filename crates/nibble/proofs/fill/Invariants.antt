@@ -1,13 +1,10 @@
 -- `nibble::fill` meets its contract. The table is that of the nibbles below a alone, and what is left of the map decides as the whole does.
 -- Assumes nothing.
-use mathlib.Core.Path.{◌≡◌, ◌∙◌}
-use Prim.Native.Nat.{◌+◌, ◌<◌, ◌≤◌, ◌-◌}
-use native.Mathlib.Omega.{arith}
+use mathlib.Core.Path.{◌≡◌}
+use Prim.Native.Nat.{◌+◌, ◌≤◌, ◌-◌}
 use lib.ListN.{drop}
-use borrow.Author.Rules.{rules}
 use Rattle.nibble.specs.Nibbles.{first_above}
-use Rattle.nibble.proofs.CodeLaws.{six-bits}
-use Rattle.nibble.proofs.MapLaws.{above_next, above_here, above_end, filled, none_filled, fill_turn, fill_end}
+use Rattle.nibble.proofs.MapLaws.{filled}
 use Rattle.nibble.proofs.fill.Given as goal
 
 abbrev pub invariant-loop-a : goal.invariant-loop-a

@@ -1,7 +1,6 @@
 -- `nibble::look_up` meets its contract. By whether the operand has six bits.
 -- Assumes nothing.
 use native.Mathlib.Omega.{arith}
-use borrow.Author.Rules.{rules}
 use Rattle.nibble.proofs.TableLaws.{past_63, within_63}
 use Rattle.nibble.proofs.look_up.Goals as goal
 

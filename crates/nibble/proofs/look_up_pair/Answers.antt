@@ -1,7 +1,6 @@
 -- `nibble::look_up_pair` meets its contract. By whether the operands have six bits.
 -- Assumes nothing.
 use native.Mathlib.Omega.{arith}
-use borrow.Author.Rules.{rules}
 use Rattle.nibble.proofs.TableLaws.{first_past_63, second_past_63, both_within_63}
 use Rattle.nibble.proofs.look_up_pair.Goals as goal
 

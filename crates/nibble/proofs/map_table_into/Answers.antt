@@ -1,6 +1,5 @@
 -- `nibble::map_table_into` meets its contract. A return for each case of the check.
 -- Assumes nothing.
-use borrow.Author.Rules.{rules}
 use Rattle.nibble.proofs.MapLaws.{not_sixteen, value_above, map-right}
 use Rattle.nibble.proofs.map_table_into.Goals as goal
 

@@ -3,7 +3,6 @@
 use mathlib.Core.Path.{ap, ◌∙◌}
 use Prim.Native.Nat.{ℕ}
 use mathlib.Core.List.{List}
-use borrow.Author.Rules.{rules}
 use Rattle.nibble.specs.Nibbles.{pair_result}
 use Rattle.nibble.proofs.xor.Goals as goal
 

@@ -1,7 +1,6 @@
 -- `nibble::results::coded` meets its contract: coding and decoding are inverse.
 -- Assumes nothing.
 use mathlib.Core.Path.{ap, ◌∙◌}
-use borrow.Author.Rules.{rules}
 use Rattle.nibble.specs.Nibbles.{decoded}
 use Rattle.nibble.proofs.CodeLaws.{coded_again}
 use Rattle.nibble.proofs.results.coded.Goals as goal

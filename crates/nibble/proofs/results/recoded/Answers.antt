@@ -1,7 +1,6 @@
 -- `nibble::results::recoded` meets its contract: decoding and coding are inverse.
 -- Assumes nothing.
 use mathlib.Core.Path.{ap, ◌∙◌}
-use borrow.Author.Rules.{rules}
 use Rattle.nibble.specs.Nibbles.{codeword}
 use Rattle.nibble.proofs.CodeLaws.{decoded_again}
 use Rattle.nibble.proofs.results.recoded.Goals as goal

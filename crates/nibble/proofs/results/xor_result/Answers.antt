@@ -1,6 +1,5 @@
 -- `nibble::results::xor_result` meets its contract: what is looked up is what the table holds.
 -- Assumes nothing.
-use borrow.Author.Rules.{rules}
 use Rattle.nibble.proofs.ResultLaws.{xor_results}
 use Rattle.nibble.proofs.results.xor_result.Goals as goal
 
