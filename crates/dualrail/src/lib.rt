@@ -45,6 +45,7 @@ fn pack(answer: Answer) -> u64
 }
 
 // A line as far as 32 bits hold it.
+#[tactic(auto, unfolding(crate::specs::Packing::placed))]
 fn place(line: usize) -> u64
     ensures { (result ≡ placed line) × (result < 4294967296) }
 {

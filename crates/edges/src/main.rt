@@ -402,10 +402,7 @@ fn decode(bytes: &mut [u8]) {
 
 fn main(rt: HostRuntime) -> io::Result<()> {
     let mut input = [0u8; INPUT_ROOM];
-    let n = io::copy(
-        &mut rt.stdin().take(INPUT_ROOM as u64),
-        &mut &mut input[..],
-    )?;
+    let n = io::copy(&mut rt.stdin().take(INPUT_ROOM as u64), &mut &mut input[..])?;
     decode(&mut input);
     tell_all(&mut rt.stdout(), &input[0..INPUT_ROOM.min(n as usize)])
 }

@@ -1,7 +1,6 @@
 -- `edges::notation::decimal` meets its contract: no digit makes the number longer than six, and the bytes to read get fewer. Assumes nothing.
 use Prim.Native.Nat.{◌≤◌, ◌-◌}
 use lib.ListN.{length}
-use borrow.Author.Rules.{rules}
 use Rattle.edges.proofs.notation.decimal.Given as goal
 
 abbrev pub invariant-loop-i : goal.invariant-loop-i

@@ -1,6 +1,5 @@
 -- `edges::notation::holds` is safe and ends: each item makes the rest of the list shorter. Assumes nothing.
 use lib.ListN.{length}
-use borrow.Author.Rules.{rules}
 use Rattle.edges.proofs.notation.holds.Given as goal
 
 abbrev pub invariant-loop-rest : goal.invariant-loop-rest

@@ -1,6 +1,5 @@
 -- `edges::notation::holds_from` is safe and ends: the places to see get fewer. Assumes nothing.
 use Prim.Native.Nat.{◌-◌}
-use borrow.Author.Rules.{rules}
 use Rattle.edges.proofs.notation.holds_from.Given as goal
 
 abbrev pub invariant-loop-i : goal.invariant-loop-i

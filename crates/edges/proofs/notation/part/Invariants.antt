@@ -1,6 +1,5 @@
 -- `edges::notation::part` is safe and ends: the marks to pass get fewer. Assumes nothing.
 use Prim.Native.Nat.{◌≤◌, ◌-◌}
-use borrow.Author.Rules.{rules}
 use Rattle.edges.proofs.notation.part.Given as goal
 
 abbrev pub invariant-loop-i : goal.invariant-loop-i

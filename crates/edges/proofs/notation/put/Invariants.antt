@@ -1,7 +1,6 @@
 -- `edges::notation::put` is safe and ends: each item shortens the rest of the list, and what is lent keeps its length. Assumes nothing.
 use mathlib.Core.Path.{◌≡◌}
 use lib.ListN.{length}
-use borrow.Author.Rules.{rules}
 use Rattle.edges.proofs.notation.put.Given as goal
 
 abbrev pub invariant-loop-rest : goal.invariant-loop-rest

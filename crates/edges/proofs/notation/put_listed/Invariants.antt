@@ -2,7 +2,6 @@
 -- nothing.
 use mathlib.Core.Path.{◌≡◌}
 use lib.ListN.{length}
-use borrow.Author.Rules.{rules}
 use Rattle.edges.proofs.notation.put_listed.Given as goal
 
 abbrev pub invariant-loop-rest : goal.invariant-loop-rest

@@ -4,7 +4,6 @@ use Prim.Native.Nat.{◌≤◌, ◌-◌}
 use mathlib.Core.Path.{◌≡◌}
 use lib.ListN.{length}
 use Rattle.sets.specs.Walk.{max_values}
-use borrow.Author.Rules.{rules}
 use Rattle.edges.proofs.notation.put_values.Given as goal
 
 abbrev pub invariant-loop-n : goal.invariant-loop-n

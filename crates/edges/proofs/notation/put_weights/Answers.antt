@@ -1,9 +1,6 @@
 -- `edges::notation::put_weights` meets its contract: no more weights than there is room for. Assumes nothing.
-use mathlib.Core.Path.{◌≡◌}
-use Prim.Native.Nat.{◌≤◌, ◌-◌}
-use lib.ListN.{length, length-set}
+use lib.ListN.{length-set}
 use native.Mathlib.Omega.{arith}
-use borrow.Author.Rules.{rules}
 use Rattle.edges.proofs.notation.put_weights.Goals as goal
 
 pub loop-n-preserved : goal.loop-n-preserved

@@ -1,9 +1,7 @@
 -- `edges::notation::put_weights` meets its contract: no more weights than there is room for. Assumes nothing.
 use mathlib.Core.Path.{◌≡◌}
 use Prim.Native.Nat.{◌≤◌, ◌-◌}
-use lib.ListN.{length, length-set}
-use native.Mathlib.Omega.{arith}
-use borrow.Author.Rules.{rules}
+use lib.ListN.{length}
 use Rattle.edges.proofs.notation.put_weights.Given as goal
 
 abbrev pub invariant-loop-n : goal.invariant-loop-n

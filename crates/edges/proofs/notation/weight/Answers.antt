@@ -1,7 +1,6 @@
 -- `edges::notation::weight` meets its contract: a number to 32,767 has a negative of 16 bits. Assumes nothing.
 use Prim.Native.Nat.{ℕ, zero, suc, ◌<◌}
 use native.Mathlib.Omega.{arith}
-use borrow.Author.Rules.{rules}
 use borrow.Author.Tests.{lt-ltb}
 use lib.IntN.{pos, ◌-ℤ◌}
 use mir.Syntax.{w16}
