@@ -495,7 +495,7 @@ fn print(tested: &Tested, case: &Case) -> Result<Called, String> {
 fn output(program: &Path, input: &[u8]) -> Result<Vec<u8>, String> {
     let shown = program.display();
     if !program.exists() {
-        return Err(format!("{shown} is missing: run `rt run` in crates/expand and crates/trace first"));
+        return Err(format!("{shown} is missing: run `rt run < /dev/null` in crates/expand and crates/trace first"));
     }
     let failed = |what: &str, error: std::io::Error| format!("{shown} {what}: {error}");
     let mut child = Command::new(program)

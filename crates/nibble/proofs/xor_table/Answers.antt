@@ -1,5 +1,5 @@
 -- `nibble::xor_table` meets its contract. The constant is, entry for entry, what the rule gives: one computation over all 4,096, zeros
--- included. `xor-at` carries it to each entry (proofs/TableLaws).
+-- included. `xor_at` carries it to each entry (proofs/TableLaws).
 -- Assumes nothing.
 use mathlib.Core.Path.{refl}
 use Rattle.nibble.specs.Nibbles.{entries, xor_entry}
