@@ -1,6 +1,6 @@
 -- Request 01 from the claims over the definitions to the calls: a report that is clear was refused by no check, so each run leaves what the
 -- definition's run leaves. Assumes nothing.
-use mathlib.Core.Path.{◌≡◌, refl, sym, ap, ap₂, ◌∙◌, subst}
+use mathlib.Core.Path.{◌≡◌, sym, ap, ap₂, ◌∙◌, subst}
 use mathlib.Core.List.{List, [], ◌∷◌, flat_map}
 use Prim.Native.Nat.{ℕ, ◌*◌, ◌≤◌}
 use lib.ListN.{length}
@@ -8,20 +8,18 @@ use Rattle.model.specs.Layouts.{layout_of}
 use Rattle.model.specs.Answers.{Report, done, report, counted, Outcome, outcome, at_front, and_then}
 use Rattle.model.specs.Limits.{line_width}
 use Rattle.model.specs.Expansion.{expand_outcome}
-use Rattle.model.specs.declared.Answer.{Answer}
-use Rattle.model.specs.declared.Answer.TheVariants.{Count, Halted, Spent, Refused}
+use Rattle.std.specs.Prelude.{Result, Ok}
+use Rattle.model.specs.declared.Refusal.{Refusal}
 use Rattle.model.specs.Places.{State}
 use Rattle.model.specs.Stored.{lines, program_check}
 use Rattle.model.specs.Run.{run, run_outcome}
-use Rattle.model.proofs.OutcomeLaws.{never_done, run_outcome_lem}
-use Rattle.model.proofs.CheckAnswers.{CountOrRefusal, counts, refuses, program_answers, expand_answers, NoCount, Refusal, no_count_refuses}
-use Rattle.sets.specs.declared.Verdict.{Verdict}
-use Rattle.walk.specs.Moves.{refusal_of}
+use Rattle.model.proofs.OutcomeLaws.{run_outcome_lem}
+use Rattle.model.proofs.CheckAnswers.{CountOrRefusal, counts, refuses, program_answers}
 use Rattle.sets.specs.Walk.{told, judged, verdict_report}
 use Rattle.sets.specs.Claims.{Clear, Images}
 use Rattle.sets.proofs.Reports.{sound}
 use Rattle.sets.proofs.Expansions.{no_false_alarm}
-use Rattle.balance.specs.VerdictClaims.{DrawnTwins, AsJudged, SoundCalls, ClearExpansion, verdict_on}
+use Rattle.balance.specs.VerdictClaims.{DrawnTwins, AsJudged, SoundCalls, ClearExpansion}
 use Rattle.balance.specs.EntryClaims.{Expanded, listing}
 use Rattle.balance.proofs.EntryRuns.{listed, ending, answer_is, leaves_is}
 
@@ -69,31 +67,11 @@ pub judged_claim : (q sets : List ℕ) (b : ℕ) (s t : State) (x y : List ℕ) 
     → one ≡ run_outcome q 0 b s x → other ≡ run_outcome q 0 b t y → DrawnTwins sets b s t x y → Clear r → AsJudged r x y one other
 judged_claim q sets b s t x y r one other e f g D h = rw (e, f, g) (sound_calls q sets b s t x y D (rw e at h))
 
-module _ (position spacing : ℕ) (p out new : List ℕ) (a : Answer) (e : outcome (report a) (new ∷ []) ≡ expand_outcome position spacing p out) where
-  answers : CountOrRefusal (report a)
-  answers = rw (ap (λ (o : Outcome). o.answer) e) (expand_answers position spacing p out)
-
-  -- `expand` refused
-  module _ (h : NoCount a) where
-    refusal : Refusal (report a)
-    refusal = no_count_refuses a h answers refl
-
-    pub refusal_on : (sets : List ℕ) (b : ℕ) (v : Verdict) → v ≡ refusal_of a → told v ≡ verdict_on (report a) new sets b
-    refusal_on sets b v w = ap told w ∙ go a h refusal
-      where
-        go : (z : Answer) → NoCount z → Refusal (report z) → told (refusal_of z) ≡ verdict_on (report z) new sets b
-        go (Count n) k f = absurd (never_done (sym f.is))
-        go (Halted i s) k f = absurd (never_done (sym f.is))
-        go (Spent i s) k f = absurd (never_done (sym f.is))
-        go (Refused k l) k' f = refl
-
-    pub not_counted : (n : ℕ) → report a ≡ counted n → ⊥
-    not_counted n w = never_done (sym refusal.is ∙ w)
-
+module _ (position spacing : ℕ) (p out new : List ℕ) (a : Result ℕ (Refusal ℕ)) (e : outcome (report a) (new ∷ []) ≡ expand_outcome position spacing p out) where
   -- `expand` wrote n lines
-  module _ (n : ℕ) (c : a ≡ Count n) where
+  module _ (n : ℕ) (c : a ≡ Ok n) where
     pub counted_call : outcome (counted n) (new ∷ []) ≡ expand_outcome position spacing p out
-    counted_call = ap (λ (z : Answer). outcome (report z) (new ∷ [])) (sym c) ∙ e
+    counted_call = ap (λ (z : Result ℕ (Refusal ℕ)). outcome (report z) (new ∷ [])) (sym c) ∙ e
 
     expanded : Expanded position spacing p new n
     expanded = record { lent = out; call = sym counted_call }

@@ -4,20 +4,20 @@
 #![tactic(auto)]
 
 ghost use Rattle.std.specs.Prelude.{◌≡◌, [], ◌∷◌};
-ghost use Rattle.model.specs.Answers.{report, outcome};
+ghost use Rattle.model.specs.Answers.{report, run_report, outcome};
 ghost use Rattle.model.specs.Images.{from_image_outcome};
 ghost use Rattle.model.specs.Run.{run_outcome};
 ghost use Rattle.balance.specs.EntryClaims.{Twin, SameCalls, Followable, FollowingCalls};
 
-use model::Answer;
+use model::{Ending, Refusal};
 
 pub mod moves;
 pub mod verdicts;
 
 #[derive(Clone, Copy)]
 pub struct Twins {
-    pub one: Answer,
-    pub other: Answer,
+    pub one: Result<Ending, Refusal>,
+    pub other: Result<Ending, Refusal>,
 }
 
 // Runs a listing from two states. On a listing that `expand` wrote, from the start of a source line, and on the images in its layout of two
@@ -31,23 +31,21 @@ pub fn twin_runs(
     trace: &mut [u16],
     twin: &mut [u16],
 ) -> Twins
-    ensures trace_after { outcome (report result.one) (one.new ∷ trace.new ∷ []) ≡ run_outcome listing.now start budget one.old trace.old }
-    ensures twin_after { outcome (report result.other) (other.new ∷ twin.new ∷ []) ≡ run_outcome listing.now start budget other.old twin.old }
-    ensures same_calls { Twin listing.now start budget one.old other.old trace.old twin.old → SameCalls trace.old twin.old (outcome (report result.one) (one.new ∷ trace.new ∷ [])) (outcome (report result.other) (other.new ∷ twin.new ∷ [])) }
+    ensures trace_after { outcome (run_report result.one) (one.new ∷ trace.new ∷ []) ≡ run_outcome listing.now start budget one.old trace.old }
+    ensures twin_after { outcome (run_report result.other) (other.new ∷ twin.new ∷ []) ≡ run_outcome listing.now start budget other.old twin.old }
+    ensures same_calls { Twin listing.now start budget one.old other.old trace.old twin.old → SameCalls trace.old twin.old (outcome (run_report result.one) (one.new ∷ trace.new ∷ [])) (outcome (run_report result.other) (other.new ∷ twin.new ∷ [])) }
 {
-    let first = machine::run(listing, start, budget, one, trace);
-    let second = machine::run(listing, start, budget, other, twin);
     Twins {
-        one: first,
-        other: second,
+        one: machine::run(listing, start, budget, one, trace),
+        other: machine::run(listing, start, budget, other, twin),
     }
 }
 
 #[derive(Clone, Copy)]
 pub struct Followed {
-    pub source: Answer,
-    pub expansion: Answer,
-    pub back: Answer,
+    pub source: Result<Ending, Refusal>,
+    pub expansion: Result<Ending, Refusal>,
+    pub back: Result<u32, Refusal>,
 }
 
 // Runs a program from a bit state and a listing from an image, and goes the way back from what the listing left. On a listing that `expand`
@@ -68,17 +66,14 @@ pub fn follow(
     shown: &mut [u16],
     back: &mut [u8],
 ) -> Followed
-    ensures trace_after { outcome (report result.source) (bits.new ∷ trace.new ∷ []) ≡ run_outcome program.now line steps bits.old trace.old }
-    ensures shown_after { outcome (report result.expansion) (image.new ∷ shown.new ∷ []) ≡ run_outcome listing.now start span image.old shown.old }
+    ensures trace_after { outcome (run_report result.source) (bits.new ∷ trace.new ∷ []) ≡ run_outcome program.now line steps bits.old trace.old }
+    ensures shown_after { outcome (run_report result.expansion) (image.new ∷ shown.new ∷ []) ≡ run_outcome listing.now start span image.old shown.old }
     ensures back_after { outcome (report result.back) (back.new ∷ []) ≡ from_image_outcome position spacing image.new back.old }
-    ensures following_calls { Followable position spacing program.now line steps bits.old trace.old listing.now start span image.old shown.old back.old → FollowingCalls position spacing program.now span (outcome (report result.source) (bits.new ∷ trace.new ∷ [])) (outcome (report result.expansion) (image.new ∷ shown.new ∷ [])) × (back.new ≡ bits.new) }
+    ensures following_calls { Followable position spacing program.now line steps bits.old trace.old listing.now start span image.old shown.old back.old → FollowingCalls position spacing program.now span (outcome (run_report result.source) (bits.new ∷ trace.new ∷ [])) (outcome (run_report result.expansion) (image.new ∷ shown.new ∷ [])) × (back.new ≡ bits.new) }
 {
-    let source = machine::run(program, line, steps, bits, trace);
-    let expansion = machine::run(listing, start, span, image, shown);
-    let decoded = images::from_image(position, spacing, image, back);
     Followed {
-        source,
-        expansion,
-        back: decoded,
+        source: machine::run(program, line, steps, bits, trace),
+        expansion: machine::run(listing, start, span, image, shown),
+        back: images::from_image(position, spacing, image, back),
     }
 }

@@ -2,7 +2,7 @@
 // `to_image` wrote, proofs/MoveCalls proves them, and the functions here, which make these calls, promise them.
 ghost use Rattle.std.specs.Prelude.{◌≡◌, [], ◌∷◌, length};
 ghost use Rattle.model.specs.Limits.{state_size};
-ghost use Rattle.model.specs.Answers.{report, counted, outcome};
+ghost use Rattle.model.specs.Answers.{report, run_report, counted, outcome};
 ghost use Rattle.model.specs.Run.{run_outcome};
 ghost use Rattle.model.specs.Images.{to_image_outcome, from_image_outcome};
 ghost use Rattle.images.specs.Moving.{move_outcome};
@@ -11,13 +11,13 @@ ghost use Rattle.balance.specs.EntryClaims.{SameCalls};
 ghost use Rattle.balance.specs.MoveClaims.{state_left, Continuing, ContinuedCalls, MovedTwin};
 
 use super::Twins;
-use model::Answer;
+use model::{Ending, Refusal};
 
 #[derive(Clone, Copy)]
 pub struct ByBits {
-    pub moved: Answer,
-    pub bits: Answer,
-    pub image: Answer,
+    pub moved: Result<u32, Refusal>,
+    pub bits: Result<u32, Refusal>,
+    pub image: Result<u32, Refusal>,
 }
 
 // Moves an image, and goes the way back in its layout and from there to the image in the new one. Where the move is not refused, and a state is
@@ -37,27 +37,24 @@ pub fn move_by_bits(
     ensures image_after { outcome (report result.image) (image.new ∷ []) ≡ to_image_outcome new_position new_spacing bits.new image.old }
     ensures bits_value { report result.moved ≡ counted state_size → length bits.old ≡ state_size → length image.old ≡ state_size → (report result.bits ≡ counted state_size) × (report result.image ≡ counted state_size) × (image.new ≡ moved.new) }
 {
-    let at_once = images::move_image(
-        old_position,
-        old_spacing,
-        new_position,
-        new_spacing,
-        from,
-        moved,
-    );
-    let decoded = images::from_image(old_position, old_spacing, from, bits);
-    let coded = images::to_image(new_position, new_spacing, bits, image);
     ByBits {
-        moved: at_once,
-        bits: decoded,
-        image: coded,
+        moved: images::move_image(
+            old_position,
+            old_spacing,
+            new_position,
+            new_spacing,
+            from,
+            moved,
+        ),
+        bits: images::from_image(old_position, old_spacing, from, bits),
+        image: images::to_image(new_position, new_spacing, bits, image),
     }
 }
 
 #[derive(Clone, Copy)]
 pub struct ThereAndBack {
-    pub there: Answer,
-    pub back: Answer,
+    pub there: Result<u32, Refusal>,
+    pub back: Result<u32, Refusal>,
 }
 
 // Moves an image to another layout and back. Where the first move is not refused, and the second is lent a state, that is not refused
@@ -96,8 +93,8 @@ pub fn move_home(
 
 #[derive(Clone, Copy)]
 pub struct RanAndMoved {
-    pub run: Answer,
-    pub moved: Answer,
+    pub run: Result<Ending, Refusal>,
+    pub moved: Result<u32, Refusal>,
 }
 
 // Runs a listing and moves what it left.
@@ -113,25 +110,26 @@ pub fn run_and_move(
     trace: &mut [u16],
     moved: &mut [u8],
 ) -> RanAndMoved
-    ensures trace_after { outcome (report result.run) (image.new ∷ trace.new ∷ []) ≡ run_outcome listing.now start budget image.old trace.old }
+    ensures trace_after { outcome (run_report result.run) (image.new ∷ trace.new ∷ []) ≡ run_outcome listing.now start budget image.old trace.old }
     ensures moved_after { outcome (report result.moved) (moved.new ∷ []) ≡ move_outcome old_position old_spacing new_position new_spacing image.new moved.old }
 {
-    let run = machine::run(listing, start, budget, image, trace);
-    let answer = images::move_image(
-        old_position,
-        old_spacing,
-        new_position,
-        new_spacing,
-        image,
-        moved,
-    );
-    RanAndMoved { run, moved: answer }
+    RanAndMoved {
+        run: machine::run(listing, start, budget, image, trace),
+        moved: images::move_image(
+            old_position,
+            old_spacing,
+            new_position,
+            new_spacing,
+            image,
+            moved,
+        ),
+    }
 }
 
 #[derive(Clone, Copy)]
 pub struct ContinuedRun {
     pub before: RanAndMoved,
-    pub after: Answer,
+    pub after: Result<Ending, Refusal>,
     pub whole: RanAndMoved,
 }
 
@@ -158,12 +156,12 @@ pub fn continue_run(
     whole_trace: &mut [u16],
     whole_moved: &mut [u8],
 ) -> ContinuedRun
-    ensures trace_after { outcome (report result.before.run) (image.new ∷ trace.new ∷ []) ≡ run_outcome listing.now start budget image.old trace.old }
+    ensures trace_after { outcome (run_report result.before.run) (image.new ∷ trace.new ∷ []) ≡ run_outcome listing.now start budget image.old trace.old }
     ensures moved_value { report result.before.moved ≡ (move_outcome old_position old_spacing new_position new_spacing image.new moved.old).answer }
-    ensures new_trace_after { outcome (report result.after) (moved.new ∷ new_trace.new ∷ []) ≡ run_outcome new_listing.now new_start new_budget (state_left (move_outcome old_position old_spacing new_position new_spacing image.new moved.old)) new_trace.old }
-    ensures whole_trace_after { outcome (report result.whole.run) (whole_image.new ∷ whole_trace.new ∷ []) ≡ run_outcome listing.now start whole_budget whole_image.old whole_trace.old }
+    ensures new_trace_after { outcome (run_report result.after) (moved.new ∷ new_trace.new ∷ []) ≡ run_outcome new_listing.now new_start new_budget (state_left (move_outcome old_position old_spacing new_position new_spacing image.new moved.old)) new_trace.old }
+    ensures whole_trace_after { outcome (run_report result.whole.run) (whole_image.new ∷ whole_trace.new ∷ []) ≡ run_outcome listing.now start whole_budget whole_image.old whole_trace.old }
     ensures whole_moved_after { outcome (report result.whole.moved) (whole_moved.new ∷ []) ≡ move_outcome old_position old_spacing new_position new_spacing whole_image.new whole_moved.old }
-    ensures continued_calls { (C : Continuing old_position old_spacing new_position new_spacing listing.now start budget image.old trace.old moved.old new_listing.now new_start new_budget new_trace.old whole_budget whole_image.old whole_trace.old whole_moved.old) → ContinuedCalls old_position old_spacing new_position new_spacing C.program C.move_line C.end_line budget new_budget whole_budget (report result.before.run) (report result.before.moved) (report result.after) (report result.whole.run) (report result.whole.moved) moved.new whole_moved.new }
+    ensures continued_calls { (C : Continuing old_position old_spacing new_position new_spacing listing.now start budget image.old trace.old moved.old new_listing.now new_start new_budget new_trace.old whole_budget whole_image.old whole_trace.old whole_moved.old) → ContinuedCalls old_position old_spacing new_position new_spacing C.program C.move_line C.end_line budget new_budget whole_budget (run_report result.before.run) (report result.before.moved) (run_report result.after) (run_report result.whole.run) (report result.whole.moved) moved.new whole_moved.new }
 {
     let before = run_and_move(
         old_position,
@@ -199,8 +197,8 @@ pub fn continue_run(
 
 #[derive(Clone, Copy)]
 pub struct MovedTwins {
-    pub one: Answer,
-    pub other: Answer,
+    pub one: Result<u32, Refusal>,
+    pub other: Result<u32, Refusal>,
     pub runs: Twins,
 }
 
@@ -226,23 +224,20 @@ pub fn moved_twins(
 ) -> MovedTwins
     ensures one_value { report result.one ≡ (move_outcome one_position one_spacing position spacing one_image.now one.old).answer }
     ensures other_value { report result.other ≡ (move_outcome other_position other_spacing position spacing other_image.now other.old).answer }
-    ensures trace_after { outcome (report result.runs.one) (one.new ∷ trace.new ∷ []) ≡ run_outcome listing.now start budget (state_left (move_outcome one_position one_spacing position spacing one_image.now one.old)) trace.old }
-    ensures twin_after { outcome (report result.runs.other) (other.new ∷ twin.new ∷ []) ≡ run_outcome listing.now start budget (state_left (move_outcome other_position other_spacing position spacing other_image.now other.old)) twin.old }
-    ensures same_calls { report result.one ≡ counted state_size → report result.other ≡ counted state_size → MovedTwin position spacing listing.now start budget one_image.now other_image.now trace.old twin.old → SameCalls trace.old twin.old (outcome (report result.runs.one) (one.new ∷ trace.new ∷ [])) (outcome (report result.runs.other) (other.new ∷ twin.new ∷ [])) }
+    ensures trace_after { outcome (run_report result.runs.one) (one.new ∷ trace.new ∷ []) ≡ run_outcome listing.now start budget (state_left (move_outcome one_position one_spacing position spacing one_image.now one.old)) trace.old }
+    ensures twin_after { outcome (run_report result.runs.other) (other.new ∷ twin.new ∷ []) ≡ run_outcome listing.now start budget (state_left (move_outcome other_position other_spacing position spacing other_image.now other.old)) twin.old }
+    ensures same_calls { report result.one ≡ counted state_size → report result.other ≡ counted state_size → MovedTwin position spacing listing.now start budget one_image.now other_image.now trace.old twin.old → SameCalls trace.old twin.old (outcome (run_report result.runs.one) (one.new ∷ trace.new ∷ [])) (outcome (run_report result.runs.other) (other.new ∷ twin.new ∷ [])) }
 {
-    let first = images::move_image(one_position, one_spacing, position, spacing, one_image, one);
-    let second = images::move_image(
-        other_position,
-        other_spacing,
-        position,
-        spacing,
-        other_image,
-        other,
-    );
-    let runs = super::twin_runs(listing, start, budget, one, other, trace, twin);
     MovedTwins {
-        one: first,
-        other: second,
-        runs,
+        one: images::move_image(one_position, one_spacing, position, spacing, one_image, one),
+        other: images::move_image(
+            other_position,
+            other_spacing,
+            position,
+            spacing,
+            other_image,
+            other,
+        ),
+        runs: super::twin_runs(listing, start, budget, one, other, trace, twin),
     }
 }

@@ -2,21 +2,21 @@
 // proofs/VerdictCalls proves them, and the functions here, which call these entry points, promise them.
 ghost use Rattle.std.specs.Prelude.{◌≡◌, [], ◌∷◌, ℕ};
 ghost use Rattle.model.specs.Layouts.{layout_of};
-ghost use Rattle.model.specs.Answers.{report, counted, outcome};
+ghost use Rattle.model.specs.Answers.{report, run_report, counted, outcome};
 ghost use Rattle.model.specs.Expansion.{expand_outcome};
 ghost use Rattle.model.specs.Run.{run_outcome};
 ghost use Rattle.sets.specs.Walk.{told, verdict_report};
 ghost use Rattle.sets.specs.Claims.{Clear, Images};
 ghost use Rattle.balance.specs.VerdictClaims.{DrawnTwins, AsJudged, verdict_on};
 
-use model::{Answer, LINE_WIDTH};
+use model::{Ending, LINE_WIDTH, Refusal};
 use sets::Verdict;
 
 #[derive(Clone, Copy)]
 pub struct JudgedRuns {
-    pub verdict: Verdict,
-    pub one: Answer,
-    pub other: Answer,
+    pub verdict: Result<Verdict, Refusal>,
+    pub one: Result<Ending, Refusal>,
+    pub other: Result<Ending, Refusal>,
 }
 
 // Judges a listing and runs it from two states. Where the verdict is balanced or spent and the states are drawn from the sets, both runs are
@@ -31,24 +31,21 @@ pub fn judged_runs(
     twin: &mut [u16],
 ) -> JudgedRuns
     ensures verdict_value { told result.verdict ≡ verdict_report listing.now sets.now budget }
-    ensures trace_after { outcome (report result.one) (one.new ∷ trace.new ∷ []) ≡ run_outcome listing.now 0 budget one.old trace.old }
-    ensures twin_after { outcome (report result.other) (other.new ∷ twin.new ∷ []) ≡ run_outcome listing.now 0 budget other.old twin.old }
-    ensures as_judged { DrawnTwins sets.now budget one.old other.old trace.old twin.old → Clear (told result.verdict) → AsJudged (told result.verdict) trace.old twin.old (outcome (report result.one) (one.new ∷ trace.new ∷ [])) (outcome (report result.other) (other.new ∷ twin.new ∷ [])) }
+    ensures trace_after { outcome (run_report result.one) (one.new ∷ trace.new ∷ []) ≡ run_outcome listing.now 0 budget one.old trace.old }
+    ensures twin_after { outcome (run_report result.other) (other.new ∷ twin.new ∷ []) ≡ run_outcome listing.now 0 budget other.old twin.old }
+    ensures as_judged { DrawnTwins sets.now budget one.old other.old trace.old twin.old → Clear (told result.verdict) → AsJudged (told result.verdict) trace.old twin.old (outcome (run_report result.one) (one.new ∷ trace.new ∷ [])) (outcome (run_report result.other) (other.new ∷ twin.new ∷ [])) }
 {
-    let verdict = walk::judge(listing, sets, budget);
-    let first = machine::run(listing, 0, budget, one, trace);
-    let second = machine::run(listing, 0, budget, other, twin);
     JudgedRuns {
-        verdict,
-        one: first,
-        other: second,
+        verdict: walk::judge(listing, sets, budget),
+        one: machine::run(listing, 0, budget, one, trace),
+        other: machine::run(listing, 0, budget, other, twin),
     }
 }
 
 #[derive(Clone, Copy)]
 pub struct JudgedExpansion {
-    pub expanded: Answer,
-    pub verdict: Verdict,
+    pub expanded: Result<u32, Refusal>,
+    pub verdict: Result<Verdict, Refusal>,
 }
 
 // Expands a program and judges what was written. Where `expand` refuses nothing, from sets that hold only images in that layout with one
@@ -66,13 +63,15 @@ pub fn judged_expansion(
     ensures never_alarms { (n : ℕ) → report result.expanded ≡ counted n → Images (layout_of position spacing) sets.now → Clear (told result.verdict) }
 {
     let expanded = expander::expand(position, spacing, program, out);
-    let Answer::Count(count) = expanded else {
-        return JudgedExpansion {
+    match expanded {
+        Ok(count) => {
+            let end = LINE_WIDTH * (count as usize);
+            let verdict = walk::judge(&out[..end], sets, budget);
+            JudgedExpansion { expanded, verdict }
+        }
+        Err(refusal) => JudgedExpansion {
             expanded,
-            verdict: walk::refusal_of(expanded),
-        };
-    };
-    let end = LINE_WIDTH * (count as usize);
-    let verdict = walk::judge(&out[..end], sets, budget);
-    JudgedExpansion { expanded, verdict }
+            verdict: Err(refusal),
+        },
+    }
 }

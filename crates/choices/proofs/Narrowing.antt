@@ -37,13 +37,22 @@ pub record Turned (l : Line) (c : ℕ) (b : List ℕ) (s : State) (level k at : 
   pub back_state : set s' at (first b at) ≡ s
   pub left : visited_all l c now (flat_map (from (lists_of b) l k at) (drop j (values_of b at))) ≡ visited_all l c before (draw (lists_of b) (drop level (involved l)))
 
-module _ (l : Line) (c : ℕ) (b : List ℕ) (s : State) (level k at : ℕ) (before : Gathered) (lb : length b ≡ set_width * state_size) (es : s ≡ heads (lists_of b))
-    (O : Opens (lists_of b) l level k at) (lt : k < argument_places) where
+-- the place `at`, number k of the arguments, is open in the bytes b and the state s
+pub record Opened (l : Line) (b : List ℕ) (s : State) (level k at : ℕ) : Type 0 where
+  pub size : length b ≡ set_width * state_size
+  pub state : s ≡ heads (lists_of b)
+  pub opens : Opens (lists_of b) l level k at
+  pub argument : k < argument_places
+
+pub opened : {l : Line} {b : List ℕ} {s : State} {level k at : ℕ} → length b ≡ set_width * state_size → s ≡ heads (lists_of b) → (k < argument_places) × Opens (lists_of b) l level k at → Opened l b s level k at
+opened size state o = record { size = size; state = state; opens = o.1; argument = o.0 }
+
+module _ {l : Line} {b : List ℕ} {s : State} {level k at : ℕ} (P : Opened l b s level k at) where
   abbrev vs : List ℕ
   vs = values_of b at
 
   open_there : T (several vs)
-  open_there = (O.here lt).1
+  open_there = (P.opens.here P.argument).1
 
   pub within : at < state_size
   within = several_within (lists_of b) at (lists_length state_size b) open_there
@@ -51,25 +60,25 @@ module _ (l : Line) (c : ℕ) (b : List ℕ) (s : State) (level k at : ℕ) (bef
   first-value : first b at ≡ get_or (heads (lists_of b)) at 0
   first-value =
       let z : set_width * at + 1 + 0 ≡ set_width * at + 1 = omega arith in
-      ap (λ (i : ℕ). get_or b i 0) (sym z) ∙ value_at b lb at within 0 (omega (arith, ltb→lt 1 (length vs) open_there)) ∙ sym (heads_at (lists_of b) at)
+      ap (λ (i : ℕ). get_or b i 0) (sym z) ∙ value_at b P.size at within 0 (omega (arith, ltb→lt 1 (length vs) open_there)) ∙ sym (heads_at (lists_of b) at)
 
-  pub turned_none : Turned l c b s level k at before b s before 0
-  turned_none = record {
+  pub turned_none : (c : ℕ) (before : Gathered) → Turned l c b s level k at before b s before 0
+  turned_none c before = record {
     most = omega arith;
     back = begun-back b at;
-    back_state = rw (es, first-value) (set-get_or (heads (lists_of b)) at 0);
-    left = sym (ap (visited_all l c before) (O.same ∙ at_place (lists_of b) l k lt ∙ rw (O.here lt).0 refl));
+    back_state = rw (P.state, first-value) (set-get_or (heads (lists_of b)) at 0);
+    left = sym (ap (visited_all l c before) (P.opens.same ∙ at_place (lists_of b) l k P.argument ∙ rw (P.opens.here P.argument).0 refl));
   }
 
-  module _ (b' : List ℕ) (s' : State) (now : Gathered) (j : ℕ) (I : Turned l c b s level k at before b' s' now j) where
+  module _ {c : ℕ} {before : Gathered} {b' : List ℕ} {s' : State} {now : Gathered} {j : ℕ} (I : Turned l c b s level k at before b' s' now j) where
     pub same_size : length b' ≡ set_width * state_size
-    same_size = sym (length-set (set b' (set_width * at) (count b at)) (set_width * at + 1) (first b at) ∙ length-set b' (set_width * at) (count b at)) ∙ ap length I.back ∙ lb
+    same_size = sym (length-set (set b' (set_width * at) (count b at)) (set_width * at + 1) (first b at) ∙ length-set b' (set_width * at) (count b at)) ∙ ap length I.back ∙ P.size
 
     pub same_state_size : length s' ≡ state_size
-    same_state_size = sym (length-set s' at (first b at)) ∙ ap length (I.back_state ∙ es) ∙ length-map (lists_of b) (λ xs. get_or xs 0 0) ∙ lists_length state_size b
+    same_state_size = sym (length-set s' at (first b at)) ∙ ap length (I.back_state ∙ P.state) ∙ length-map (lists_of b) (λ xs. get_or xs 0 0) ∙ lists_length state_size b
 
     pub few-values : j < length vs → j < max_values
-    few-values h = omega (arith, values_le b lb at within)
+    few-values h = omega (arith, values_le b P.size at within)
 
     -- the value that is read
     pub read_value : j < length vs → {v : ℕ} → v ≡ cond (eqb j 0) (first b at) (get_or b' (set_width * at + 1 + j) 0) → v ≡ get_or vs j 0
@@ -78,7 +87,7 @@ module _ (l : Line) (c : ℕ) (b : List ℕ) (s : State) (level k at : ℕ) (bef
         go : (t : Bool) → eqb j 0 ≡ t → cond t (first b at) (get_or b' (set_width * at + 1 + j) 0) ≡ get_or vs j 0
         go true q = let z = eqb-true j 0 q in rw z (first-value ∙ heads_at (lists_of b) at)
         go false q =
-            sym (begun_beside b' at (count b at) (first b at) j (eqb-false j 0 q)) ∙ ap (λ (u : List ℕ). get_or u (set_width * at + 1 + j) 0) I.back ∙ value_at b lb at within j h
+            sym (begun_beside b' at (count b at) (first b at) j (eqb-false j 0 q)) ∙ ap (λ (u : List ℕ). get_or u (set_width * at + 1 + j) 0) I.back ∙ value_at b P.size at within j h
 
     -- the place has it alone
     module _ (v : ℕ) where
@@ -86,13 +95,13 @@ module _ (l : Line) (c : ℕ) (b : List ℕ) (s : State) (level k at : ℕ) (bef
       narrowed = sym (begun_again b' at (count b at) (first b at) 1 v) ∙ ap (λ (u : List ℕ). begun u at 1 v) I.back
 
       pub narrowed_lists : lists_of (begun b' at 1 v) ≡ set (lists_of b) at (v ∷ [])
-      narrowed_lists = ap lists_of narrowed ∙ begun_alone b at v lb within
+      narrowed_lists = ap lists_of narrowed ∙ begun_alone b at v P.size within
 
       pub narrowed_state : set s' at v ≡ heads (lists_of (begun b' at 1 v))
-      narrowed_state = sym (set-set s' at (first b at) v) ∙ ap (λ (u : State). set u at v) (I.back_state ∙ es) ∙ sym (ap heads narrowed_lists ∙ heads-put (lists_of b) at (v ∷ []))
+      narrowed_state = sym (set-set s' at (first b at) v) ∙ ap (λ (u : State). set u at v) (I.back_state ∙ P.state) ∙ sym (ap heads narrowed_lists ∙ heads-put (lists_of b) at (v ∷ []))
 
       pub narrowed_settled : Settled (lists_of (begun b' at 1 v)) l (k + 1)
-      narrowed_settled = rw narrowed_lists (settled_put (lists_of b) l k at v O.settled lt (O.here lt).0 open_there (lists_length state_size b))
+      narrowed_settled = rw narrowed_lists (settled_put (lists_of b) l k at v P.opens.settled P.argument (P.opens.here P.argument).0 open_there (lists_length state_size b))
 
       -- and the next one comes
       pub turned-next : (b'' : List ℕ) (s'' : State) (next : Gathered) → j < length vs → v ≡ get_or vs j 0 → b'' ≡ begun b' at 1 v → s'' ≡ set s' at v

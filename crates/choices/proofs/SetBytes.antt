@@ -1,14 +1,16 @@
 -- Sets as bytes: the 17 bytes of a place, how many values they list and which, and what becomes of the lists when bytes are written.
 -- Assumes nothing.
 use mathlib.Core.Path.{◌≡◌, refl, sym, ap, ◌∙◌}
-use mathlib.Core.List.{List, [], ◌∷◌, ◌++◌, append-nil, map}
-use Prim.Native.Nat.{ℕ, zero, suc, ◌+◌, ◌-◌, ◌*◌, ◌≤◌, ◌<◌}
+use mathlib.Core.List.{List, [], ◌∷◌, ◌++◌, map}
+use Prim.Native.Nat.{ℕ, zero, suc, ◌+◌, ◌-◌, ◌*◌, ◌≤◌, ◌<◌, min}
 use native.Mathlib.Nat.{not-suc-le-zero, le_of_suc-le-suc}
 use native.Mathlib.Decide.{ℕ_discrete}
-use native.Mathlib.Numerals.{add-one}
 use native.Mathlib.Omega.{arith}
-use lib.ListN.{length, get_or, set, take, drop, length-drop, length-set, length-append, drop_of_length-le, get_or-eq_default}
-use lib.Seq.{length-take-le, take_all, take-suc, take-take, take-suc-set, take-set-le, take-set-lt, drop-set-lt, drop-set-add, set_out, get_or-take, get_or-drop, drop-drop, get_or-set_same, get_or-set_other, ext_get_or, drop-cons, set_at, append_snoc, set-set, set_comm, set-get_or}
+use borrow.Rule.Slice.PartMut.{put_mid}
+use lib.ListN.{length, get_or, set, take, drop, length-take, length-drop, length-set, get_or-eq_default}
+use lib.Seq.{length-take-le, take_all, take-take, take-suc-set, take-set-le, take-set-lt, drop-set-lt, drop-set-add, set_out, get_or-take, get_or-drop, drop-drop, get_or-set_same, get_or-set_other, ext_get_or, set-set, set_comm, set-get_or}
+use Rattle.std.proofs.lemmas.List.{drop-take}
+use Rattle.std.proofs.lemmas.Slice.{between-put_mid, take-put_mid_below, drop-put_mid}
 use Rattle.model.specs.Limits.{state_size}
 use Rattle.model.proofs.TestLaws.{below}
 use Rattle.sets.specs.Walk.{max_values, set_width, listed, lists_from, lists_of, values}
@@ -83,11 +85,8 @@ module _ (b : List ℕ) (l : length b ≡ set_width * state_size) (i : ℕ) (h :
   count_at : get_or (block b i) 0 0 ≡ get_or b (set_width * i) 0
   count_at = let z : set_width * i + 0 ≡ set_width * i = omega arith in byte_at 0 (omega arith) ∙ ap (λ (k : ℕ). get_or b k 0) z
 
-  pub values-few : get_or b (set_width * i) 0 < max_values → get_or b (set_width * i) 0 ≡ length (values (lists_of b) i)
-  values-few g = sym (ap length values_at ∙ listed-few (block b i) max_values block-length (omega (arith, count_at)) ∙ count_at)
-
-  pub values_most : max_values ≤ get_or b (set_width * i) 0 → max_values ≡ length (values (lists_of b) i)
-  values_most g = sym (ap length values_at ∙ listed_most (block b i) max_values block-length (omega (arith, count_at)))
+  pub size_at : min max_values (get_or b (set_width * i) 0) ≡ length (values (lists_of b) i)
+  size_at = omega (arith, ap length values_at, length-take (get_or (block b i) 0 0) (drop 1 (block b i)), length-drop 1 (block b i), block-length, count_at)
 
   pub values_le : length (values (lists_of b) i) ≤ max_values
   values_le = omega (arith, ap length values_at, (listed_bounds (block b i) max_values block-length).0)
@@ -128,6 +127,32 @@ lists_set b b' q xs h other here =
     go i g (no n) = at_list state_size b' i g ∙ ap listed (other i n) ∙ sym (at_list state_size b i g) ∙ sym (get_or-set_other (lists_of b) q i xs (0 ∷ []) n)
     go i g (yes e) = rw (e, get_or-set_same (lists_of b) q xs (0 ∷ []) (omega (arith, lists_length state_size b))) (at_list state_size b' q h ∙ here)
 
+-- ---- the bytes of a place written over
+
+-- the same up to k, so the same m from a on, if they end by then
+same_within : (k : ℕ) (xs ys : List ℕ) → take k xs ≡ take k ys → (a m : ℕ) → a + m ≤ k → take m (drop a xs) ≡ take m (drop a ys)
+same_within k xs ys e a m h =
+    let shown : (zs : List ℕ) → take m (drop a zs) ≡ drop a (take (a + m) (take k zs)) = λ (zs : List ℕ). sym (drop-take a m zs) ∙ ap (drop a) (sym (take-take (a + m) k zs h)) in
+    shown xs ∙ ap (λ (zs : List ℕ). drop a (take (a + m) zs)) e ∙ sym (shown ys)
+
+module _ (b : List ℕ) (l : length b ≡ set_width * state_size) (i : ℕ) (h : i < state_size) (new : List ℕ) (n : length new ≡ set_width) where
+  abbrev at : ℕ
+  at = set_width * i
+
+  abbrev over : List ℕ
+  over = put_mid at (at + set_width - at) b new
+
+  pub lists_put : lists_of over ≡ set (lists_of b) i (listed new)
+  lists_put = lists_set b over i (listed new) h others (ap listed here)
+    where
+      here : block over i ≡ new
+      here = let z : at + set_width - at ≡ set_width = omega arith in ap (λ (m : ℕ). take m (drop at over)) (sym z) ∙ between-put_mid at (at + set_width - at) b new (at + set_width) (omega arith) (omega (arith, n))
+
+      others : (j : ℕ) → (j ≡ i → ⊥) → block over j ≡ block b j
+      others j e = below j i
+          (λ g. same_within at over b (take-put_mid_below at (at + set_width - at) b new at (omega arith) (omega arith)) (set_width * j) set_width (omega arith))
+          (λ g. ap (take set_width) (drop-put_mid at (at + set_width - at) b new (set_width * j) (omega arith) (omega arith) (omega (arith, n))))
+
 -- ---- the first two bytes of a place
 
 pub begun_alone : (b : List ℕ) (i v : ℕ) → length b ≡ set_width * state_size → i < state_size → lists_of (begun b i 1 v) ≡ set (lists_of b) i (v ∷ [])
@@ -157,31 +182,9 @@ begun_beside b i c v j n =
     let k = set_width * i in
     get_or-set_other (set b k c) (k + 1) (k + 1 + j) v 0 (λ e. n (omega arith)) ∙ get_or-set_other b k (k + 1 + j) c 0 (λ e. omega arith)
 
--- ---- the front of a store written over, a number at a time
-
-module _ (r new : List ℕ) (j : ℕ) where
-  pub front-next : j < length r → j < length new → set (take j new ++ drop j r) j (get_or new j 0) ≡ take (j + 1) new ++ drop (j + 1) r
-  front-next h g =
-      rw (add-one j, take-suc new j 0 g, drop-cons r j 0 h)
-      (set_at (take j new) (get_or r j 0) (drop (suc j) r) (get_or new j 0) j (length-take-le j new (omega arith)) ∙ sym (append_snoc (take j new) (get_or new j 0) (drop (suc j) r)))
-
-  pub front_length : j ≤ length r → j ≤ length new → length (take j new ++ drop j r) ≡ length r
-  front_length h g = omega (arith, length-append (take j new) (drop j r), length-take-le j new g, length-drop j r)
-
-  pub front-over : length r ≤ j → take j new ++ drop j r ≡ take j new
-  front-over h = rw (drop_of_length-le r {i = j} h) (append-nil (take j new))
-
 -- ---- what a function makes of a list
 
 pub map_at_lem : (f : ℕ → ℕ) (xs : List ℕ) (j : ℕ) → j < length xs → get_or (map f xs) j 0 ≡ f (get_or xs j 0)
 map_at_lem f [] j h = absurd (omega arith)
 map_at_lem f (x ∷ xs) zero h = refl
 map_at_lem f (x ∷ xs) (suc j) h = map_at_lem f xs j (omega arith)
-
--- ---- the bytes of place i written over, the first j of them so far
-
-pub record Put (b : List ℕ) (i : ℕ) (new b' : List ℕ) (j : ℕ) : Type 0 where
-  pub most : j ≤ set_width
-  pub long : length b' ≡ length b
-  pub here : block b' i ≡ take j new ++ drop j (block b i)
-  pub others : (m : ℕ) → (m ≡ i → ⊥) → block b' m ≡ block b m

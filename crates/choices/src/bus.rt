@@ -1,6 +1,6 @@
 // What the bus may hold, as 17 numbers: their count, and the values. A line's first address meets them all, and its last one takes their
 // place; both turn on the base of one operand alone.
-ghost use Rattle.std.specs.Prelude.{◌≡◌, ◌&&◌, [], ◌∷◌, ◌++◌, ℕ, suc, ◌+◌, ◌*◌, ◌<◌, ◌≤◌, ltb, length, get_or};
+ghost use Rattle.std.specs.Prelude.{◌≡◌, true, false, ◌&&◌, [], ◌∷◌, ◌++◌, ℕ, suc, ◌+◌, ◌*◌, ◌<◌, ◌≤◌, ltb, length, get_or, MatchOption};
 ghost use Rattle.model.specs.Limits.{state_size, line_width};
 ghost use Rattle.model.specs.Places.{has_address};
 ghost use Rattle.model.specs.Step.{distance};
@@ -24,32 +24,30 @@ fn has_address(code: u16) -> bool
 fn address_by(code: u16, value: u8) -> u16
     ensures { result ≡ address_by (operand_of code) value }
 {
-    if code < coding::CELLS {
-        return 0;
+    match code {
+        0..coding::CELLS => 0,
+        coding::CELLS..coding::PUBLICS => code - coding::CELLS,
+        coding::PUBLICS..coding::SENSITIVES => (value as u16 + (code - coding::PUBLICS) % 128)
+            % 128,
+        coding::SENSITIVES..coding::TABLES => 128
+            + (value as u16 + (code - coding::SENSITIVES) % 128) % 128,
+        coding::TABLES.. => 256 + (value as u16 + (code - coding::TABLES) % 256) % 256,
     }
-    if code < coding::PUBLICS {
-        return code - coding::CELLS;
-    }
-    if code < coding::SENSITIVES {
-        return ((value as u16) + (code - coding::PUBLICS) % 128) % 128;
-    }
-    if code < coding::TABLES {
-        return 128 + ((value as u16) + (code - coding::SENSITIVES) % 128) % 128;
-    }
-    256 + ((value as u16) + (code - coding::TABLES) % 256) % 256
 }
 
-// The first of three operands that has an address, an empty field where none has.
-fn addressed(a: u16, b: u16, c: u16) -> u16
-    ensures { operand_of result ≡ addressed (operand_of a) (operand_of b) (operand_of c) }
+// The first of three operands that has an address.
+fn addressed(a: u16, b: u16, c: u16) -> Option<u16>
+    ensures { MatchOption result (has_address (addressed (operand_of a) (operand_of b) (operand_of c)) ≡ false) (λ code. (operand_of code ≡ addressed (operand_of a) (operand_of b) (operand_of c)) × (has_address (operand_of code) ≡ true)) }
 {
     if has_address(a) {
-        return a;
+        Some(a)
+    } else if has_address(b) {
+        Some(b)
+    } else if has_address(c) {
+        Some(c)
+    } else {
+        None
     }
-    if has_address(b) {
-        return b;
-    }
-    if has_address(c) { c } else { 0 }
 }
 
 // Whether all values of the bus are at that distance from an address.
@@ -57,13 +55,10 @@ fn is_apart(bus: &[u16], x: u16, distance: u16) -> bool
     requires { (length bus.now ≡ set_width) × (get_or bus.now 0 0 ≤ max_values) }
     ensures { result ≡ all_at distance x (listed bus.now) }
 {
-    let n = bus[0] as usize;
-    let mut j = 0;
-    while j < n {
-        if machine::distance(bus[1 + j], x) != distance {
+    for &value in &bus[1..=bus[0] as usize] {
+        if machine::distance(value, x) != distance {
             return false;
         }
-        j += 1;
     }
     true
 }
@@ -72,10 +67,7 @@ fn is_apart(bus: &[u16], x: u16, distance: u16) -> bool
 fn is_alone(size: usize, count: u16) -> bool
     ensures { result ≡ ltb size 2 && ltb count 2 }
 {
-    if size < 2 {
-        return count < 2;
-    }
-    false
+    size < 2 && count < 2
 }
 
 // Whether every address that the operand of a number may have is at one distance from the bus, whatever it holds.
@@ -89,12 +81,10 @@ fn are_met(code: u16, sets: &[u8], bus: &[u16]) -> bool
         return true;
     }
     let first = machine::distance(bus[1], address_by(code, value_of(sets, at, 0)));
-    let mut j = 0;
-    while j < n {
+    for j in 0..n {
         if !is_apart(bus, address_by(code, value_of(sets, at, j)), first) {
             return false;
         }
-        j += 1;
     }
     true
 }
@@ -104,11 +94,10 @@ pub fn is_met(line: &[u16], sets: &[u8], bus: &[u16]) -> bool
     requires { (length line.now ≡ line_width) × (length sets.now ≡ set_width * state_size) × ((i : ℕ) → 0 < length (values (lists_of sets.now) i)) × (length bus.now ≡ set_width) × (0 < length (listed bus.now)) × (get_or bus.now 0 0 ≤ max_values) }
     ensures { result ≡ meets (lists_of sets.now) (listed bus.now) (line_by line.now) }
 {
-    let code = addressed(line[3], line[4], line[2]);
-    if has_address(code) {
-        return are_met(code, sets, bus);
+    match addressed(line[3], line[4], line[2]) {
+        Some(code) => are_met(code, sets, bus),
+        None => true,
     }
-    true
 }
 
 // A value more, behind the others.
@@ -127,12 +116,9 @@ fn reach(code: u16, sets: &[u8], bus: &mut [u16])
     ensures { (listed bus.new ≡ reached (lists_of sets.now) (operand_of code)) × (get_or bus.new 0 0 ≤ max_values) }
 {
     let at = base_of(code);
-    let n = size_of(sets, at);
     bus[0] = 0;
-    let mut j = 0;
-    while j < n {
+    for j in 0..size_of(sets, at) {
         push(bus, address_by(code, value_of(sets, at, j)));
-        j += 1;
     }
 }
 
@@ -141,8 +127,7 @@ pub fn lead(line: &[u16], sets: &[u8], bus: &mut [u16])
     requires { (length line.now ≡ line_width) × (length sets.now ≡ set_width * state_size) × (length bus.old ≡ set_width) × (get_or bus.old 0 0 ≤ max_values) }
     ensures { (listed bus.new ≡ leads (lists_of sets.now) (listed bus.old) (line_by line.now)) × (get_or bus.new 0 0 ≤ max_values) }
 {
-    let code = addressed(line[2], line[4], line[3]);
-    if has_address(code) {
+    if let Some(code) = addressed(line[2], line[4], line[3]) {
         reach(code, sets, bus);
     }
 }

@@ -1,5 +1,5 @@
 // Sets of values as bytes, 17 for each place: their count, the values, the rest ignored. Where there is no place, past the last one, 0 is
-// the one value and nothing is written.
+// the one value and nothing is written. The count stays in front of the values, since the sets are lent by C in that form.
 ghost use Rattle.std.specs.Prelude.{◌≡◌, suc, ◌*◌, ◌<◌, ◌≤◌, ltb, length, get_or, set, take};
 ghost use Rattle.model.specs.Limits.{state_size};
 ghost use Rattle.sets.specs.Walk.{set_width, max_values, listed, lists_of, values, several, member, insert};
@@ -7,7 +7,8 @@ ghost use Rattle.sets.specs.Walk.{set_width, max_values, listed, lists_of, value
 use model::STATE_SIZE;
 use sets::{MAX_VALUES, SET_WIDTH};
 
-// A set that is being gathered has room for one value more, so that too many are told.
+// A set that is being gathered has room for one value more, so that too many are told. It has its count in front as well, so that it is
+// copied to its place as it stands.
 pub const ROOM: usize = SET_WIDTH + 1;
 
 // How many values a place may have.
@@ -18,8 +19,7 @@ pub fn size_of(sets: &[u8], i: usize) -> usize
     if STATE_SIZE <= i {
         return 1;
     }
-    let n = sets[SET_WIDTH * i] as usize;
-    if n < MAX_VALUES { n } else { MAX_VALUES }
+    MAX_VALUES.min(sets[SET_WIDTH * i] as usize)
 }
 
 // Value j of a place.
@@ -49,12 +49,8 @@ pub fn put_set(sets: &mut [u8], i: usize, new: &[u8])
     if STATE_SIZE <= i {
         return;
     }
-    let k = SET_WIDTH * i;
-    let mut j = 0;
-    while j < SET_WIDTH {
-        sets[k + j] = new[j];
-        j += 1;
-    }
+    let at = SET_WIDTH * i;
+    sets[at..at + SET_WIDTH].copy_from_slice(&new[..SET_WIDTH]);
 }
 
 // Whether x is among the values that are being gathered.
@@ -62,15 +58,7 @@ fn is_member(found: &[u8], x: u8) -> bool
     requires { (length found.now ≡ suc set_width) × (get_or found.now 0 0 ≤ set_width) }
     ensures { result ≡ member x (listed found.now) }
 {
-    let n = found[0] as usize;
-    let mut j = 0;
-    while j < n {
-        if found[1 + j] == x {
-            return true;
-        }
-        j += 1;
-    }
-    false
+    found[1..=found[0] as usize].contains(&x)
 }
 
 // A value more, behind the others, where it is new.

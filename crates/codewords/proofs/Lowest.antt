@@ -1,9 +1,8 @@
 -- The lowest place at which a function is least.
 -- Assumes nothing.
-use mathlib.Core.Path.{◌≡◌, refl}
+use mathlib.Core.Path.{◌≡◌, refl, ap, ◌∙◌}
 use mathlib.Core.Bool.{Bool, true, false, cond}
-use Prim.Native.Nat.{ℕ, zero, suc, ◌+◌, ◌*◌, ◌%◌, ◌<◌, ◌≤◌}
-use native.Mathlib.Numerals.{add-one}
+use Prim.Native.Nat.{ℕ, zero, suc, ◌+◌, ◌-◌, ◌<◌, ◌≤◌}
 use native.Mathlib.Omega.{arith}
 use borrow.Author.Tests.{ltb-true, ltb-false, lt-ltb, le-ltb}
 use lib.Dec.{ltb}
@@ -54,24 +53,28 @@ module _ (g : ℕ → ℕ) where
       go true e h ih = let a = ltb-true (g (suc m)) (g (lowest f m)) e in let b = lowest_least m i (omega arith) in omega arith
       go false e h ih = ih h
 
-  -- the values at 0 to m, each with its place in the lowest eight bits: the least of these numbers has the lowest place
-  unfoldable pub least_with : ℕ → ℕ
-  least_with zero = 256 * g 0
-  least_with (suc m) = let b = least_with m in cond (ltb (256 * g (suc m) + suc m) b) (256 * g (suc m) + suc m) b
+  -- one value more: it is the lowest where it is below the least before it
+  module _ (i b : ℕ) (h : 0 < i) (e : b ≡ lowest f (i - 1)) where
+    pub lower : g i < g b → i ≡ lowest f (i + 1 - 1)
+    unfolding lowest
+    lower l = go i h e l
+      where
+        go : (i : ℕ) → 0 < i → b ≡ lowest f (i - 1) → g i < g b → i ≡ lowest f (i + 1 - 1)
+        go zero h e l = absurd (omega arith)
+        go (suc j) h e l =
+            let p : suc j - 1 ≡ j = omega arith in
+            let q : suc j + 1 - 1 ≡ suc j = omega arith in
+            let d : b ≡ lowest f j = e ∙ ap (lowest f) p in
+            rw (q, ← d, lt-ltb (g (suc j)) (g b) l) refl
 
-  pub least_next : (i b x r : ℕ) → b ≡ least_with i → x ≡ g (i + 1) → r ≡ cond (ltb (256 * x + (i + 1)) b) (256 * x + (i + 1)) b → r ≡ least_with (i + 1)
-  unfolding least_with
-  least_next i b x r e h q = rw (q, e, h, add-one i)
-
-  least_is : (m : ℕ) → m < 256 → least_with m ≡ 256 * g (lowest f m) + lowest f m
-  unfolding lowest least_with
-  least_is zero h = omega arith
-  least_is (suc m) h =
-      let l = lowest_at_most f m in
-      rw (least_is m (omega arith))
-      (below (g (suc m)) (g (lowest f m))
-      (λ z. rw (lt-ltb (256 * g (suc m) + suc m) (256 * g (lowest f m) + lowest f m) (omega arith), lt-ltb (g (suc m)) (g (lowest f m)) z))
-      (λ z. rw (le-ltb (256 * g (suc m) + suc m) (256 * g (lowest f m) + lowest f m) (omega arith), le-ltb (g (suc m)) (g (lowest f m)) z)))
-
-  pub least_place : (m : ℕ) → m < 256 → least_with m % 256 ≡ lowest f m
-  least_place m h = let l = lowest_at_most f m in rw (least_is m h) (omega arith)
+    pub not_lower : g b ≤ g i → b ≡ lowest f (i + 1 - 1)
+    unfolding lowest
+    not_lower l = go i h e l
+      where
+        go : (i : ℕ) → 0 < i → b ≡ lowest f (i - 1) → g b ≤ g i → b ≡ lowest f (i + 1 - 1)
+        go zero h e l = absurd (omega arith)
+        go (suc j) h e l =
+            let p : suc j - 1 ≡ j = omega arith in
+            let q : suc j + 1 - 1 ≡ suc j = omega arith in
+            let d : b ≡ lowest f j = e ∙ ap (lowest f) p in
+            rw (q, ← d, le-ltb (g (suc j)) (g b) l) refl

@@ -1,15 +1,15 @@
 -- A weight raised by 66,536: signed numbers turned into unsigned ones, in one place.
 -- Assumes nothing.
-use mathlib.Core.Path.{◌≡◌, refl}
+use mathlib.Core.Path.{◌≡◌, refl, sym}
 use mathlib.Core.Bool.{Bool, true, false, cond, false≢true}
 use Prim.Native.Nat.{ℕ, suc, ◌+◌, ◌-◌, ◌≤◌}
 use native.Mathlib.Omega.{arith}
 use borrow.Author.Tests.{ltb-true, ltb-false, le-ltb, le-leb, lt-leb, leb-true}
-use lib.Dec.{T, leb, leb→le}
+use lib.Dec.{leb, leb→le}
 use lib.IntN.{ℤ, pos, negsuc, ◌+ℤ◌, nat_abs}
-use lib.Signed.{lt_z, non_neg}
-use mir.Syntax.{w16, w32}
-use mir.Val.{Fits, SFits}
+use lib.Signed.{lt_z}
+use mir.Syntax.{w16}
+use mir.Val.{SFits}
 use Rattle.model.proofs.TestLaws.{and_both, holds}
 use Rattle.codewords.specs.Codewords.{weight_right}
 use Rattle.codewords.specs.Keys.{raised_right, raised}
@@ -24,13 +24,13 @@ too_low a z e h = go a (rw e at h)
     go (pos n) h = absurd (false≢true h)
     go (negsuc n) h = (rw (lt-leb n 999 (ltb-true 999 n h)), omega arith)
 
-pub too_high : (a z : ℤ) → z ≡ a → lt_z (pos 1000) z ≡ true → (0 ≡ raised a) × (0 ≤ 67536)
+pub too_high : (a z : ℤ) → z ≡ a → lt_z z (pos 1001) ≡ false → (0 ≡ raised a) × (0 ≤ 67536)
 unfolding raised
 too_high a z e h = go a (rw e at h)
   where
-    go : (a : ℤ) → lt_z (pos 1000) a ≡ true → (0 ≡ raised a) × (0 ≤ 67536)
-    go (pos n) h = (rw (lt-leb n 1000 (ltb-true 1000 n h)), omega arith)
-    go (negsuc n) h = absurd (false≢true h)
+    go : (a : ℤ) → lt_z a (pos 1001) ≡ false → (0 ≡ raised a) × (0 ≤ 67536)
+    go (pos n) h = (rw (lt-leb n 1000 (ltb-false n 1001 h)), omega arith)
+    go (negsuc n) h = absurd (false≢true (sym h))
 
 -- ---- the sum s with 1,000, in range: it is not negative
 
@@ -40,24 +40,18 @@ pub record Raised (a s : ℤ) : Type 0 where
   pub small : up ≤ 2000
   pub is : 65536 + up ≡ raised a
 
-pub in_range : (a z : ℤ) → z ≡ a → lt_z z (negsuc 999) ≡ false → lt_z (pos 1000) z ≡ false → Raised a (z +ℤ pos 1000)
+pub in_range : (a z : ℤ) → z ≡ a → lt_z z (negsuc 999) ≡ false → lt_z z (pos 1001) ≡ true → Raised a (z +ℤ pos 1000)
 unfolding raised
 in_range a z e h g = rw e (go a (rw e at h) (rw e at g))
   where
-    go : (a : ℤ) → lt_z a (negsuc 999) ≡ false → lt_z (pos 1000) a ≡ false → Raised a (a +ℤ pos 1000)
-    go (pos n) h g = let l = ltb-false 1000 n g in record { up = n + 1000; sum = refl; small = omega arith; is = rw (le-leb n 1000 l) (omega arith) }
+    go : (a : ℤ) → lt_z a (negsuc 999) ≡ false → lt_z a (pos 1001) ≡ true → Raised a (a +ℤ pos 1000)
+    go (pos n) h g = let l = ltb-true n 1001 g in record { up = n + 1000; sum = refl; small = omega arith; is = rw (le-leb n 1000 (omega arith)) (omega arith) }
     go (negsuc n) h g =
         let l = ltb-false 999 n h in
         record { up = 1000 - suc n; sum = rw (le-ltb 1000 (suc n) (omega arith)); small = omega arith; is = rw (le-leb n 999 l) (omega arith) }
 
 pub sum_fits : (a s : ℤ) → Raised a s → SFits w16 s
 sum_fits a s r = record { sfits = rw r.sum (omega (arith, r.small)) }
-
-pub cast_fits : (a s v : ℤ) → Raised a s → v ≡ s → T (non_neg v) × Fits w32 (nat_abs v)
-cast_fits a s v r e = rw (e, r.sum) (tt, record { fits = omega (arith, r.small) })
-
-pub cast_small : (a s v : ℤ) → Raised a s → v ≡ s → nat_abs v ≤ 2000
-cast_small a s v r e = rw (e, r.sum) r.small
 
 pub cast_is : (a s v : ℤ) → Raised a s → v ≡ s → (65536 + nat_abs v ≡ raised a) × (65536 + nat_abs v ≤ 67536)
 cast_is a s v r e = rw (e, r.sum) (r.is, omega (arith, r.small))

@@ -4,13 +4,13 @@
 #![tactic(auto)]
 
 ghost use Rattle.std.specs.Prelude.{◌≡◌, [], ◌∷◌, map, ◌≤◌, length, replicate};
-ghost use Rattle.model.specs.Answers.{report, outcome, refused as Report·refused};
+ghost use Rattle.model.specs.Answers.{number_of, report, outcome, refused as Report·refused};
 ghost use Rattle.codewords.specs.Codewords.{weights_right, size_right, inputs_right, set_of, choose_outcome};
 ghost use Rattle.codewords.specs.Claims.{Choice};
 ghost use Rattle.codewords.specs.Keys.{word_of};
 
-use keys::{KEYS, lowest_run, raised_at, rank_words};
-use model::Answer;
+use keys::{WORDS, lowest_run, raised_at, rank_words};
+use model::{Condition, Refusal};
 
 mod keys;
 
@@ -20,7 +20,7 @@ pub const SET: usize = 16;
 // The answer, and the set in ranked order, 0 in unused entries, after a refusal in all.
 #[derive(Clone, Copy)]
 pub struct Chosen {
-    pub answer: Answer,
+    pub answer: Result<u32, Refusal>,
     pub set: [u8; SET],
 }
 
@@ -29,12 +29,10 @@ pub struct Chosen {
 fn weights_right(weights: &[i16]) -> bool
     ensures { result ≡ weights_right weights.now }
 {
-    let mut i = 0;
-    while i < weights.len() {
+    for i in 0..weights.len() {
         if raised_at(weights, i) == 0 {
             return false;
         }
-        i += 1;
     }
     true
 }
@@ -42,37 +40,19 @@ fn weights_right(weights: &[i16]) -> bool
 fn size_right(size: u8) -> bool
     ensures { result ≡ size_right size }
 {
-    if size == 2 {
-        return true;
-    }
-    if size == 4 {
-        return true;
-    }
-    if size == 8 {
-        return true;
-    }
-    size == 16
+    matches!(size, 2 | 4 | 8 | 16)
 }
 
+#[tactic(auto, unfolding(crate::specs::Codewords::inputs_right))]
 fn inputs_right(bits: u8, ones: u8, size: u8, weights: &[i16]) -> bool
     ensures { result ≡ inputs_right bits ones size weights.now }
 {
-    if bits < 4 {
-        return false;
-    }
-    if 8 < bits {
-        return false;
-    }
-    if 8 < ones {
-        return false;
-    }
-    if !size_right(size) {
-        return false;
-    }
-    if weights.len() != bits as usize {
-        return false;
-    }
-    weights_right(weights)
+    4 <= bits
+        && bits <= 8
+        && ones <= 8
+        && size_right(size)
+        && weights.len() == bits as usize
+        && weights_right(weights)
 }
 
 // ---- the choice
@@ -83,19 +63,17 @@ fn set_of(keys: &[u32]) -> [u8; SET]
     ensures { result ≡ set_of (map word_of keys.now) }
 {
     let mut set = [0u8; SET];
-    let mut i = 0;
-    while i < keys.len() {
+    for i in 0..keys.len() {
         set[i] = (keys[i] % 256) as u8;
-        i += 1;
     }
     set
 }
 
-fn refused(number: u8) -> Chosen
-    ensures { outcome (report result.answer) (result.set ∷ []) ≡ outcome (Report·refused number 0) (replicate 16 0 ∷ []) }
+fn refused(condition: Condition) -> Chosen
+    ensures { outcome (report result.answer) (result.set ∷ []) ≡ outcome (Report·refused (number_of condition) 0) (replicate 16 0 ∷ []) }
 {
     Chosen {
-        answer: Answer::Refused { number, line: 0 },
+        answer: Err(Refusal { condition, line: 0 }),
         set: [0; SET],
     }
 }
@@ -107,20 +85,20 @@ pub fn choose(bits: u8, ones: u8, size: u8, weights: &[i16]) -> Chosen
     ensures choice { Choice bits ones size weights.now (report result.answer) result.set }
 {
     if !inputs_right(bits, ones, size, weights) {
-        return refused(28);
+        return refused(Condition::WrongChoice);
     }
-    let mut keys = [0u32; KEYS];
+    let mut keys = [0u32; WORDS];
     let n = rank_words(bits, ones, weights, &mut keys);
     let count = size as usize;
     if n < count {
-        return refused(29);
+        return refused(Condition::TooFewWords);
     }
     let ranked = &keys[..n];
     let at = lowest_run(ranked, count);
     let end = at + count;
     let set = set_of(&ranked[at..end]);
     Chosen {
-        answer: Answer::Count(size as u32),
+        answer: Ok(size as u32),
         set,
     }
 }

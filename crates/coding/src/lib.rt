@@ -5,8 +5,9 @@
 
 #![tactic(auto)]
 
-ghost use Rattle.std.specs.Prelude.{◌≡◌, true, map, ◌%◌, ◌^◌, ◌≤◌, ◌<◌, get_or};
-ghost use Rattle.model.specs.Answers.{report};
+ghost use Rattle.std.specs.Prelude.{◌≡◌, true, false, map, ◌%◌, ◌^◌, ◌≤◌, ◌<◌, get_or, IfOk, IfErr};
+ghost use Rattle.model.specs.declared.Condition.TheVariants.{UnknownLayout};
+ghost use Rattle.model.specs.Answers.{number_or_0, report};
 ghost use Rattle.model.specs.Layouts.{layout_of, is_six};
 ghost use Rattle.model.specs.Code.{code};
 ghost use Rattle.model.specs.Places.{kind, is_public, is_sensitive};
@@ -16,7 +17,9 @@ ghost use Rattle.model.specs.Stored.{mark_code, opcode_code, operand_code, targe
 ghost use Rattle.model.specs.Stored.{same_filled, parsed_numbers, fault, fault_at, program_check};
 ghost use Rattle.coding.specs.Fields.{numbers_at, in_range};
 
-use model::{Answer, Kind, LINE_WIDTH, Layout, Line, MAX_LINES, Mark, Opcode, Operand, Target};
+use model::{
+    Condition, Kind, LINE_WIDTH, Layout, Line, MAX_LINES, Mark, Opcode, Operand, Refusal, Target,
+};
 
 // How many numbers there are for a mark, an opcode, an operand and a target.
 pub const MARKS: u16 = 2;
@@ -143,7 +146,7 @@ pub fn line_of(m: u16, o: u16, d: u16, a: u16, b: u16, t: u16) -> Line
 fn number_at(program: &[u16], k: usize) -> u16
     ensures { result ≡ get_or program.now k 0 }
 {
-    if k < program.len() { program[k] } else { 0 }
+    program.get(k).copied().unwrap_or(0)
 }
 
 // The six numbers at line i of a store; past its whole lines those that are left, then 0.
@@ -321,107 +324,82 @@ fn is_in_range(d: u16, a: u16, b: u16, t: u16) -> bool
     t < TARGETS
 }
 
-// The condition that six numbers break, 3 to 6, lowest first; 0 for none.
-pub fn fault_of(m: u16, o: u16, d: u16, a: u16, b: u16, t: u16) -> u8
-    ensures { result ≡ fault (parsed_numbers m o d a b t) }
+// The condition that six numbers break, 3 to 6, lowest first.
+pub fn fault_of(m: u16, o: u16, d: u16, a: u16, b: u16, t: u16) -> Option<Condition>
+    ensures { number_or_0 result ≡ fault (parsed_numbers m o d a b t) }
 {
     if MARKS <= m {
-        return 3;
+        return Some(Condition::UnknownMark);
     }
     if OPCODES <= o {
-        return 4;
+        return Some(Condition::UnknownOpcode);
     }
-    if is_shaped(o, 0 < d, 0 < a, 0 < b, 0 < t) {
-        if is_in_range(d, a, b, t) {
-            return 0;
-        }
-        return 6;
+    if !is_shaped(o, 0 < d, 0 < a, 0 < b, 0 < t) {
+        return Some(Condition::WrongFields);
     }
-    5
+    if !is_in_range(d, a, b, t) {
+        return Some(Condition::WrongOperand);
+    }
+    None
 }
 
-fn fault_at(program: &[u16], i: usize) -> u8
-    ensures { result ≡ fault_at program.now i }
+fn fault_at(program: &[u16], i: usize) -> Option<Condition>
+    ensures { number_or_0 result ≡ fault_at program.now i }
 {
     let n = numbers_at(program, i);
     fault_of(n[0], n[1], n[2], n[3], n[4], n[5])
 }
 
 // The line count of a stored program; else 7 at line 32,768, or the fault of the lowest line whose numbers are no line.
-pub fn check_program(program: &[u16]) -> Answer
+pub fn check_program(program: &[u16]) -> Result<u32, Refusal>
     ensures { report result ≡ program_check program.now }
 {
     let count = program.len() / LINE_WIDTH;
     if MAX_LINES < count {
-        return Answer::Refused {
-            number: 7,
+        return Err(Refusal {
+            condition: Condition::TooManyLines,
             line: MAX_LINES as u16,
-        };
+        });
     }
-    let mut i = 0;
-    while i < count {
-        let fault = fault_at(program, i);
-        if fault != 0 {
-            return Answer::Refused {
-                number: fault,
+    for i in 0..count {
+        if let Some(condition) = fault_at(program, i) {
+            return Err(Refusal {
+                condition,
                 line: i as u16,
-            };
+            });
         }
-        i += 1;
     }
-    Answer::Count(count as u32)
+    Ok(count as u32)
 }
 
 // The kind of a place, registers first, then cells.
 pub fn kind_at(i: usize) -> Kind
     ensures { result ≡ kind i }
 {
-    if i < 4 {
-        return Kind::Neither;
+    match i {
+        4..16 | 32..160 => Kind::Public,
+        16..32 | 160..288 => Kind::Sensitive,
+        _ => Kind::Neither,
     }
-    if i < 16 {
-        return Kind::Public;
-    }
-    if i < 32 {
-        return Kind::Sensitive;
-    }
-    if i < 160 {
-        return Kind::Public;
-    }
-    if i < 288 {
-        return Kind::Sensitive;
-    }
-    Kind::Neither
 }
 
 pub fn is_public(kind: Kind) -> bool
     ensures { result ≡ is_public kind }
 {
-    match kind {
-        Kind::Neither => false,
-        Kind::Public => true,
-        Kind::Sensitive => false,
-    }
+    kind == Kind::Public
 }
 
 pub fn is_sensitive(kind: Kind) -> bool
     ensures { result ≡ is_sensitive kind }
 {
-    match kind {
-        Kind::Neither => false,
-        Kind::Public => false,
-        Kind::Sensitive => true,
-    }
+    kind == Kind::Sensitive
 }
 
 // Whether a position and a spacing name one of the six layouts; where they do not, condition 23 holds.
 pub fn is_six(position: u8, spacing: u8) -> bool
     ensures { result ≡ is_six position spacing }
 {
-    if position < 3 {
-        return spacing < 2;
-    }
-    false
+    position < 3 && spacing < 2
 }
 
 // 2 to the power of a position.
@@ -429,13 +407,7 @@ fn power(position: u8) -> u8
     requires { position < 3 }
     ensures { (result ≡ 2 ^ position) × (result ≤ 4) }
 {
-    if position == 0 {
-        return 1;
-    }
-    if position == 1 {
-        return 2;
-    }
-    4
+    1 << position
 }
 
 // The layout that a position and a spacing name.
@@ -462,6 +434,20 @@ pub fn layout_of(position: u8, spacing: u8) -> Layout
         orr: 16 * one,
         xor: 32 * one,
     }
+}
+
+// The layout that a position and a spacing name, or condition 23.
+pub fn layout_named(position: u8, spacing: u8) -> Result<Layout, Refusal>
+    ensures ok { IfOk result (λ L. (is_six position spacing ≡ true) × (L ≡ layout_of position spacing)) }
+    ensures err { IfErr result (λ r. (is_six position spacing ≡ false) × (r ≡ record { condition = UnknownLayout; line = 0 })) }
+{
+    if !is_six(position, spacing) {
+        return Err(Refusal {
+            condition: Condition::UnknownLayout,
+            line: 0,
+        });
+    }
+    Ok(layout_of(position, spacing))
 }
 
 // Where the codes of 0 and 1 stand in the table page, counted from cell 256.

@@ -4,8 +4,8 @@
 
 #![tactic(auto)]
 
-ghost use Rattle.std.specs.Prelude.{◌≡◌, [], ◌∷◌, ◌<◌};
-ghost use Rattle.model.specs.Answers.{report};
+ghost use Rattle.std.specs.Prelude.{◌≡◌, [], ◌∷◌, ◌<◌, Ok};
+ghost use Rattle.model.specs.Answers.{refused, number_of, report, ended, run_report};
 ghost use Rattle.model.specs.Text.{read_outcome, write_outcome};
 ghost use Rattle.model.specs.Marks.{mark_check};
 ghost use Rattle.model.specs.Expansion.{expand_outcome};
@@ -13,36 +13,17 @@ ghost use Rattle.model.specs.Images.{to_image_outcome, from_image_outcome};
 ghost use Rattle.model.specs.Run.{run_outcome};
 ghost use Rattle.images.specs.Moving.{move_outcome};
 ghost use Rattle.sets.specs.Walk.{told, verdict_report};
-ghost use Rattle.published.specs.Published.{take_in_outcome, send_out_outcome, conversion};
+ghost use Rattle.published.specs.Published.{take_in_outcome, send_out_outcome};
 ghost use Rattle.watch.specs.Watches.{watch_outcome};
 ghost use Rattle.nibble.specs.Nibbles.{codeword, decoded, xor_table, result_of, pair_result, map_outcome};
 ghost use Rattle.codewords.specs.Codewords.{choose_outcome};
 ghost use Rattle.dualrail.specs.Packing.{placed, packed, packed_run};
 
 use codewords::SET;
-use model::Answer;
+use model::{Ending, Refusal};
 use nibble::{PAIRS, WORDS};
-use published::Converted;
 use sets::Verdict;
 use watch::Watch;
-
-// The entry points below but `run` give no ending, and `run` gives no count: these arms are what the definition says of them.
-fn pack(answer: Answer) -> u64
-    ensures { result ≡ packed (report answer) }
-{
-    match answer {
-        Answer::Count(n) => n as u64,
-        Answer::Halted {
-            counter: _,
-            steps: _,
-        } => 0,
-        Answer::Spent {
-            counter: _,
-            steps: _,
-        } => 1,
-        Answer::Refused { number, line } => (number as u64) * 4294967296 + (line as u64),
-    }
-}
 
 // A line as far as 32 bits hold it.
 #[tactic(auto, unfolding(crate::specs::Packing::placed))]
@@ -55,25 +36,54 @@ fn place(line: usize) -> u64
     4294967295
 }
 
-fn pack_conversion(answer: Converted) -> u64
-    ensures { result ≡ packed (conversion answer) }
+fn pack_refusal(refusal: Refusal<usize>) -> u64
+    ensures { result ≡ packed (refused (number_of refusal.condition) refusal.line) }
+{
+    (u8::from(refusal.condition) as u64) * 4294967296 + place(refusal.line)
+}
+
+// A refusal of a run and of a walk.
+fn pack_run_refusal(refusal: Refusal) -> u64
+    ensures { result ≡ packed_run (refused (number_of refusal.condition) refusal.line) }
+{
+    (u8::from(refusal.condition) as u64) * 281474976710656 + (refusal.line as u64)
+}
+
+fn pack(answer: Result<u32, Refusal>) -> u64
+    ensures { result ≡ packed (report answer) }
 {
     match answer {
-        Converted::Count(n) => n as u64,
-        Converted::Refused { number, line } => (number as u64) * 4294967296 + place(line),
+        Ok(n) => n as u64,
+        Err(refusal) => pack_refusal(refusal.into()),
     }
 }
 
-fn pack_run(answer: Answer) -> u64
-    ensures { result ≡ packed_run (report answer) }
+fn pack_conversion(answer: Result<usize, Refusal<usize>>) -> u64
+    ensures { result ≡ packed (report answer) }
 {
     match answer {
-        Answer::Count(n) => (n as u64) * 4294967296,
-        Answer::Halted { counter, steps } => (counter as u64) * 65536 + (steps as u64),
-        Answer::Spent { counter, steps } => {
+        Ok(n) => n as u64,
+        Err(refusal) => pack_refusal(refusal),
+    }
+}
+
+fn pack_ending(ending: Ending) -> u64
+    ensures { result ≡ packed_run (ended ending) }
+{
+    match ending {
+        Ending::Halted { counter, steps } => (counter as u64) * 65536 + (steps as u64),
+        Ending::Spent { counter, steps } => {
             4294967296 + (counter as u64) * 65536 + (steps as u64)
         }
-        Answer::Refused { number, line } => { (number as u64) * 281474976710656 + (line as u64) }
+    }
+}
+
+fn pack_run(answer: Result<Ending, Refusal>) -> u64
+    ensures { result ≡ packed_run (run_report answer) }
+{
+    match answer {
+        Ok(ending) => pack_ending(ending),
+        Err(refusal) => pack_run_refusal(refusal),
     }
 }
 
@@ -198,12 +208,11 @@ pub extern "C" fn dualrail_run_watched(
 ) -> u64
     ensures { (result ≡ packed_run (watch_outcome program.now start budget state.old trace.old watches.old).run.answer) × (state.new ∷ trace.new ∷ [] ≡ (watch_outcome program.now start budget state.old trace.old watches.old).run.stores) × (watches.new ≡ (watch_outcome program.now start budget state.old trace.old watches.old).watches) }
 {
-    let answer = watch::run_watched(program, start, budget, state, trace, watches);
-    pack_run(answer)
+    pack_run(watch::run_watched(program, start, budget, state, trace, watches))
 }
 
 fn pack_verdict(verdict: Verdict) -> u64
-    ensures { result ≡ packed_run (told verdict) }
+    ensures { result ≡ packed_run (told (Ok verdict)) }
 {
     match verdict {
         Verdict::Balanced { counter, steps } => (counter as u64) * 65536 + (steps as u64),
@@ -211,7 +220,15 @@ fn pack_verdict(verdict: Verdict) -> u64
             4294967296 + (counter as u64) * 65536 + (steps as u64)
         }
         Verdict::Leak { line, steps } => 8589934592 + (line as u64) * 65536 + (steps as u64),
-        Verdict::Refused { number, line } => { (number as u64) * 281474976710656 + (line as u64) }
+    }
+}
+
+fn pack_judged(answer: Result<Verdict, Refusal>) -> u64
+    ensures { result ≡ packed_run (told answer) }
+{
+    match answer {
+        Ok(verdict) => pack_verdict(verdict),
+        Err(refusal) => pack_run_refusal(refusal),
     }
 }
 
@@ -219,7 +236,7 @@ fn pack_verdict(verdict: Verdict) -> u64
 pub extern "C" fn dualrail_judge(program: &[u16], sets: &[u8], budget: u16) -> u64
     ensures { result ≡ packed_run (verdict_report program.now sets.now budget) }
 {
-    pack_verdict(walk::judge(program, sets, budget))
+    pack_judged(walk::judge(program, sets, budget))
 }
 
 // The nibble engine. A table that is handed back by value is written into a lent one of its length.
@@ -287,8 +304,7 @@ pub extern "C" fn dualrail_choose(
     ensures stores { set.new ∷ [] ≡ (choose_outcome bits ones size weights.now).stores }
 {
     let chosen = codewords::choose(bits, ones, size, weights);
-    let answer = chosen.answer;
     let words = chosen.set;
     *set = words;
-    pack(answer)
+    pack(chosen.answer)
 }

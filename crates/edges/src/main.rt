@@ -10,11 +10,10 @@
 ghost use Rattle.std.specs.Prelude.{◌≤◌, length};
 
 use crate::notation::{
-    BEFORE, CALL, LARGEST, NAME, PROGRAM, behind, decimal, field, first, head, is_number, is_right,
-    is_seen, is_text, is_verdict, least, put, put_sets, put_weights, size, tail, watched, word,
+    BEFORE, CALL, LARGEST, NAME, PROGRAM, behind, decimal, field, first, is_number, is_right,
+    is_seen, is_text, is_verdict, put, put_sets, put_weights, size, watched, word,
 };
-use model::{Answer, LINE_WIDTH, MAX_LINES, ROW_WIDTH, STATE_SIZE};
-use published::Converted;
+use model::{LINE_WIDTH, MAX_LINES, ROW_WIDTH, Refusal, STATE_SIZE};
 use std::io::{self, Read, Write};
 
 mod notation;
@@ -40,10 +39,10 @@ const NUMBER_ROOM: usize = ROW_WIDTH * LARGEST;
 // ---- what an answer counts
 
 // The count of lines, where it is at most `most`; 0 for all else.
-fn count_of(answer: Answer, most: usize) -> usize
+fn count_of(answer: Result<u32, Refusal>, most: usize) -> usize
     ensures { result ≤ most }
 {
-    let Answer::Count(n) = answer else {
+    let Ok(n) = answer else {
         return 0;
     };
     let count = n as usize;
@@ -51,34 +50,34 @@ fn count_of(answer: Answer, most: usize) -> usize
 }
 
 // The lines that an answer counts.
-fn lines_of(store: &[u16], answer: Answer) -> &[u16] {
+fn lines_of(store: &[u16], answer: Result<u32, Refusal>) -> &[u16] {
     let lines = count_of(answer, store.len() / LINE_WIDTH);
-    &store[0..LINE_WIDTH * lines]
+    &store[..LINE_WIDTH * lines]
 }
 
 // ---- the calls, each with whether it came out as its case says
 
 fn reads(line: &[u8], input: &[u8], store: &mut [u16]) -> bool {
     let room = size(line, 0, store.len());
-    let answer = text::read(input, &mut store[0..room]);
+    let answer = text::read(input, &mut store[..room]);
     is_right(line, answer, b"", store)
 }
 
 // Reads the text of the program, of which the second number says how many bytes.
 fn reads_long(line: &[u8], program: &[u16], bytes: &mut [u8], store: &mut [u16]) -> bool {
-    printing::write(program, bytes);
+    let _ = printing::write(program, bytes);
     let end = size(line, 1, bytes.len());
-    reads(line, &bytes[0..end], store)
+    reads(line, &bytes[..end], store)
 }
 
 fn writes(line: &[u8], program: &[u16], bytes: &mut [u8]) -> bool {
     let room = size(line, 0, bytes.len());
-    let answer = printing::write(program, &mut bytes[0..room]);
-    is_right(line, answer, bytes, &[0u16; 0]) & is_text(line, bytes)
+    let answer = printing::write(program, &mut bytes[..room]);
+    is_right(line, answer, bytes, &[]) && is_text(line, bytes)
 }
 
 fn checks(line: &[u8], program: &[u16]) -> bool {
-    is_right(line, marks::check(program), b"", &[0u16; 0])
+    is_right(line, marks::check(program), b"", &[])
 }
 
 // The expansion is compared as text.
@@ -88,10 +87,10 @@ fn expands(line: &[u8], program: &[u16], bytes: &mut [u8], store: &mut [u16]) ->
         behind(line, 1),
         behind(line, 2),
         program,
-        &mut store[0..room],
+        &mut store[..room],
     );
-    printing::write(lines_of(store, answer), bytes);
-    is_right(line, answer, bytes, store) & is_text(line, bytes)
+    let _ = printing::write(lines_of(store, answer), bytes);
+    is_right(line, answer, bytes, store) && is_text(line, bytes)
 }
 
 fn runs(line: &[u8], program: &[u16], state: &mut [u8], trace: &mut [u16]) -> bool {
@@ -103,8 +102,8 @@ fn runs(line: &[u8], program: &[u16], state: &mut [u8], trace: &mut [u16]) -> bo
         program,
         start,
         budget,
-        &mut state[0..bytes],
-        &mut trace[0..room],
+        &mut state[..bytes],
+        &mut trace[..room],
     );
     is_right(line, answer, state, trace)
 }
@@ -119,13 +118,11 @@ fn debugs(line: &[u8], program: &[u16], state: &mut [u8], trace: &mut [u16]) -> 
         program,
         start,
         budget,
-        &mut state[0..bytes],
-        &mut trace[0..room],
+        &mut state[..bytes],
+        &mut trace[..room],
         watched(line),
     );
-    let answer = seen.answer;
-    let watches = seen.watches;
-    is_right(line, answer, state, trace) & is_seen(line, watches)
+    is_right(line, seen.answer, state, trace) && is_seen(line, seen.watches)
 }
 
 // Each function that takes a program gives the answer, as it does for a program that it refuses.
@@ -140,18 +137,24 @@ fn all_refuse(
     let written = writes(line, program, bytes);
     let expanded = expands(line, program, bytes, numbers);
     let run = runs(line, program, state, numbers);
-    checked & written & expanded & run
+    checked && written && expanded && run
 }
 
 // The image of so many bytes of a state, in so many bytes.
-fn image_of(line: &[u8], bits: &[u8], from: usize, image: &mut [u8], to: usize) -> Answer {
-    let n = least(from, bits.len());
-    let m = least(to, image.len());
+fn image_of(
+    line: &[u8],
+    bits: &[u8],
+    from: usize,
+    image: &mut [u8],
+    to: usize,
+) -> Result<u32, Refusal> {
+    let n = from.min(bits.len());
+    let m = to.min(image.len());
     images::to_image(
         behind(line, 1),
         behind(line, 2),
-        &bits[0..n],
-        &mut image[0..m],
+        &bits[..n],
+        &mut image[..m],
     )
 }
 
@@ -159,7 +162,7 @@ fn makes_image(line: &[u8], bits: &[u8], image: &mut [u8]) -> bool {
     let from = size(line, 0, STATE_ROOM);
     let to = size(line, 1, STATE_ROOM);
     let answer = image_of(line, bits, from, image, to);
-    is_right(line, answer, image, &[0u16; 0])
+    is_right(line, answer, image, &[])
 }
 
 // Runs from the image of the state.
@@ -170,14 +173,14 @@ fn runs_image(
     image: &mut [u8],
     trace: &mut [u16],
 ) -> bool {
-    image_of(line, bits, STATE_SIZE, image, STATE_SIZE);
+    let _ = image_of(line, bits, STATE_SIZE, image, STATE_SIZE);
     runs(line, program, image, trace)
 }
 
 // The image of the state, after the changes that stand in the place of a program.
 fn changed_image(line: &[u8], state: &[u8], image: &mut [u8]) {
-    image_of(line, state, STATE_SIZE, image, STATE_SIZE);
-    put(field(line, PROGRAM), image, &mut [0u16; 0]);
+    let _ = image_of(line, state, STATE_SIZE, image, STATE_SIZE);
+    put(field(line, PROGRAM), image, &mut []);
 }
 
 fn makes_bits(line: &[u8], state: &[u8], bits: &mut [u8]) -> bool {
@@ -188,10 +191,10 @@ fn makes_bits(line: &[u8], state: &[u8], bits: &mut [u8]) -> bool {
     let answer = images::from_image(
         behind(line, 1),
         behind(line, 2),
-        &image[0..from],
-        &mut bits[0..to],
+        &image[..from],
+        &mut bits[..to],
     );
-    is_right(line, answer, bits, &[0u16; 0])
+    is_right(line, answer, bits, &[])
 }
 
 fn moves_image(line: &[u8], state: &[u8], moved: &mut [u8]) -> bool {
@@ -204,10 +207,10 @@ fn moves_image(line: &[u8], state: &[u8], moved: &mut [u8]) -> bool {
         behind(line, 2),
         behind(line, 3),
         behind(line, 4),
-        &image[0..from],
-        &mut moved[0..to],
+        &image[..from],
+        &mut moved[..to],
     );
-    is_right(line, answer, moved, &[0u16; 0])
+    is_right(line, answer, moved, &[])
 }
 
 // The verdict on the program, from the sets of the case.
@@ -215,57 +218,54 @@ fn judges(line: &[u8], program: &[u16], sets: &mut [u8]) -> bool {
     put_sets(line, sets);
     let budget = size(line, 0, LARGEST) as u16;
     let bytes = size(line, 1, sets.len());
-    is_verdict(line, walk::judge(program, &sets[0..bytes], budget))
+    is_verdict(line, walk::judge(program, &sets[..bytes], budget))
 }
 
 // What a conversion answers, where its numbers are those of an answer.
-fn answer_of(converted: Converted) -> Answer {
+fn answer_of(converted: Result<usize, Refusal<usize>>) -> Result<u32, Refusal> {
     match converted {
-        Converted::Count(n) => Answer::Count(least(n, BYTE_ROOM) as u32),
-        Converted::Refused { number, line } => Answer::Refused {
-            number,
-            line: least(line, LARGEST) as u16,
-        },
+        Ok(n) => Ok(n.min(BYTE_ROOM) as u32),
+        Err(refusal) => Err(Refusal {
+            condition: refusal.condition,
+            line: refusal.line.min(LARGEST) as u16,
+        }),
     }
 }
 
 // A published text taken in.
 fn takes_in(line: &[u8], input: &[u8], bytes: &mut [u8]) -> bool {
     let room = size(line, 0, bytes.len());
-    let answer = answer_of(published::take_in(input, &mut bytes[0..room]));
-    is_right(line, answer, bytes, &[0u16; 0]) & is_text(line, bytes)
+    let answer = answer_of(published::take_in(input, &mut bytes[..room]));
+    is_right(line, answer, bytes, &[]) && is_text(line, bytes)
 }
 
 // A text sent out.
 fn sends_out(line: &[u8], input: &[u8], bytes: &mut [u8]) -> bool {
     let room = size(line, 0, bytes.len());
-    let answer = answer_of(published::send_out(input, &mut bytes[0..room]));
-    is_right(line, answer, bytes, &[0u16; 0]) & is_text(line, bytes)
+    let answer = answer_of(published::send_out(input, &mut bytes[..room]));
+    is_right(line, answer, bytes, &[]) && is_text(line, bytes)
 }
 
 // ---- the nibble engine, by the word behind the call's name; a value is told as a count
 
 fn gives(line: &[u8], value: u8) -> bool {
-    is_right(line, Answer::Count(value as u32), b"", &[0u16; 0])
+    is_right(line, Ok(value as u32), b"", &[])
 }
 
 fn makes_xor_table(line: &[u8]) -> bool {
     let table = nibble::xor_table();
-    is_right(line, Answer::Count(4096), &table, &[0u16; 0])
+    is_right(line, Ok(4096), &table, &[])
 }
 
 fn makes_map_table(line: &[u8], map: &[u8]) -> bool {
     let made = nibble::map_table(map);
-    let answer = made.answer;
-    let table = made.table;
-    is_right(line, answer, &table, &[0u16; 0])
+    is_right(line, made.answer, &made.table, &[])
 }
 
 // Looks the operand up in the map's table.
 fn looks_up(line: &[u8], map: &[u8]) -> bool {
     let made = nibble::map_table(map);
-    let table = made.table;
-    gives(line, nibble::look_up(&table, behind(line, 2)))
+    gives(line, nibble::look_up(&made.table, behind(line, 2)))
 }
 
 // The map is what so many registers hold.
@@ -276,8 +276,8 @@ fn counts_nibbles(line: &[u8], state: &[u8]) -> bool {
         b'd' => gives(line, nibble::decode(behind(line, 2))),
         b'x' => gives(line, nibble::xor(behind(line, 2), behind(line, 3))),
         b't' => makes_xor_table(line),
-        b'm' => makes_map_table(line, &state[0..values]),
-        b'l' => looks_up(line, &state[0..values]),
+        b'm' => makes_map_table(line, &state[..values]),
+        b'l' => looks_up(line, &state[..values]),
         _ => false,
     }
 }
@@ -291,11 +291,9 @@ fn finds_code(line: &[u8]) -> bool {
         behind(line, 1),
         behind(line, 2),
         behind(line, 3),
-        &weights[0..n],
+        &weights[..n],
     );
-    let answer = chosen.answer;
-    let set = chosen.set;
-    is_right(line, answer, &set, &[0u16; 0])
+    is_right(line, chosen.answer, &chosen.set, &[])
 }
 
 // ---- the cases
@@ -338,7 +336,7 @@ fn prepare(line: &[u8], state: &mut [u8; STATE_ROOM], store: &mut [u16; PROGRAM_
     put(field(line, BEFORE), state, store);
     let program = field(line, PROGRAM);
     if is_number(program) {
-        return least(decimal(program), PROGRAM_ROOM);
+        return decimal(program).min(PROGRAM_ROOM);
     }
     let answer = text::read(program, store);
     LINE_WIDTH * count_of(answer, PROGRAM_ROOM / LINE_WIDTH)
@@ -351,7 +349,7 @@ fn comes_out(line: &[u8]) -> bool {
     let end = prepare(line, &mut state, &mut program);
     comes_out_on(
         line,
-        &program[0..end],
+        &program[..end],
         &mut state,
         &mut [9u8; BYTE_ROOM],
         &mut [9u16; NUMBER_ROOM],
@@ -360,24 +358,21 @@ fn comes_out(line: &[u8]) -> bool {
 
 // Runs a case, and prints how it came out and its name. A line with no call is a remark.
 fn tell(out: &mut impl Write, line: &[u8]) -> io::Result<()> {
-    if field(line, CALL).len() == 0 {
+    if field(line, CALL).is_empty() {
         return Ok(());
     }
-    if comes_out(line) {
-        out.write_all(b"ok    ")?;
+    out.write_all(if comes_out(line) {
+        b"ok    "
     } else {
-        out.write_all(b"WRONG ")?;
-    }
+        b"WRONG "
+    })?;
     out.write_all(field(line, NAME))?;
     out.write_all(b"\n")
 }
 
 fn tell_all(out: &mut impl Write, lines: &[u8]) -> io::Result<()> {
-    let mut rest = lines;
-    while 0 < rest.len() {
-        tell(out, head(rest, 0))?;
-        let next = tail(rest, 0);
-        rest = next;
+    for line in lines.split(|byte| *byte == 0) {
+        tell(out, line)?;
     }
     Ok(())
 }
@@ -393,10 +388,8 @@ fn meant(byte: u8) -> u8 {
 }
 
 fn decode(bytes: &mut [u8]) {
-    let mut i: usize = 0;
-    while i < bytes.len() {
-        bytes[i] = meant(bytes[i]);
-        i += 1;
+    for byte in bytes {
+        *byte = meant(*byte);
     }
 }
 
@@ -404,5 +397,5 @@ fn main(rt: HostRuntime) -> io::Result<()> {
     let mut input = [0u8; INPUT_ROOM];
     let n = io::copy(&mut rt.stdin().take(INPUT_ROOM as u64), &mut &mut input[..])?;
     decode(&mut input);
-    tell_all(&mut rt.stdout(), &input[0..INPUT_ROOM.min(n as usize)])
+    tell_all(&mut rt.stdout(), &input[..INPUT_ROOM.min(n as usize)])
 }

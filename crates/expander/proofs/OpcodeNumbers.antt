@@ -1,52 +1,55 @@
--- What an opcode has, by its number. Assumes nothing.
-use mathlib.Core.Path.{◌≡◌, refl, sym}
-use mathlib.Core.Bool.{false, ◌&&◌}
+-- The macro of an opcode, by its number. Assumes nothing.
+use mathlib.Core.Path.{◌≡◌, refl}
 use mathlib.Core.List.{[]}
-use Prim.Native.Nat.{ℕ, zero, suc}
+use Prim.Native.Nat.{ℕ, zero, suc, ◌≤◌, ◌<◌}
 use native.Mathlib.Omega.{arith}
-use borrow.Author.Tests.{le-leb, lt-leb}
-use lib.Dec.{leb}
 use Rattle.model.specs.declared.Layout.{Layout}
-use Rattle.model.specs.declared.Opcode.{Opcode}
 use Rattle.model.specs.declared.Operand.{Operand}
 use Rattle.model.specs.Stored.{opcode_of}
-use Rattle.pieces.specs.Opcodes.{has_table, unary}
+use Rattle.model.specs.Code.{and_table, orr_table, xor_table}
+use Rattle.model.specs.Expansion.{lookup, negate, copy, macro}
 
--- an opcode without a macro
-record NoMacro (op : Opcode) : Type 0 where
-  no_table : has_table op ≡ false
-  nothing : (L : Layout) (d a : Operand) → unary L op d a ≡ []
+module _ (L : Layout) (d a b : Operand) where
+  pub not_number : (n : ℕ) → n ≡ 2 → macro L (opcode_of n) d a b ≡ negate L d a
+  unfolding macro
+  not_number n e = rw e
 
--- from lsl on, number 7
-high : (n : ℕ) → NoMacro (opcode_of (suc (suc (suc (suc (suc (suc (suc n))))))))
-unfolding unary
-high zero = record { no_table = refl; nothing = λ L d a. refl }
-high (suc zero) = record { no_table = refl; nothing = λ L d a. refl }
-high (suc (suc zero)) = record { no_table = refl; nothing = λ L d a. refl }
-high (suc (suc (suc zero))) = record { no_table = refl; nothing = λ L d a. refl }
-high (suc (suc (suc (suc zero)))) = record { no_table = refl; nothing = λ L d a. refl }
-high (suc (suc (suc (suc (suc zero))))) = record { no_table = refl; nothing = λ L d a. refl }
-high (suc (suc (suc (suc (suc (suc n)))))) = record { no_table = refl; nothing = λ L d a. refl }
+  pub mov_number : (n : ℕ) → n ≡ 3 → macro L (opcode_of n) d a b ≡ copy d a
+  unfolding macro
+  mov_number n e = rw e
 
-pub table_number : (n : ℕ) → (leb 4 n && leb n 6) ≡ has_table (opcode_of n)
-table_number zero = refl
-table_number (suc zero) = refl
-table_number (suc (suc zero)) = refl
-table_number (suc (suc (suc zero))) = refl
-table_number (suc (suc (suc (suc zero)))) = refl
-table_number (suc (suc (suc (suc (suc zero))))) = refl
-table_number (suc (suc (suc (suc (suc (suc zero)))))) = refl
-table_number (suc (suc (suc (suc (suc (suc (suc n))))))) =
-    let m = suc (suc (suc (suc (suc (suc (suc n)))))) in
-    rw (le-leb 4 m (omega arith), lt-leb m 6 (omega arith)) (sym (high n).no_table)
+  -- and, orr, xor
+  pub table_number : (n : ℕ) → 4 ≤ n → n ≤ 6 → (t : ℕ) × (macro L (opcode_of n) d a b ≡ lookup L t d a b)
+  unfolding macro
+  table_number zero g h = absurd (omega arith)
+  table_number (suc zero) g h = absurd (omega arith)
+  table_number (suc (suc zero)) g h = absurd (omega arith)
+  table_number (suc (suc (suc zero))) g h = absurd (omega arith)
+  table_number (suc (suc (suc (suc zero)))) g h = (and_table L, refl)
+  table_number (suc (suc (suc (suc (suc zero))))) g h = (orr_table L, refl)
+  table_number (suc (suc (suc (suc (suc (suc zero)))))) g h = (xor_table L, refl)
+  table_number (suc (suc (suc (suc (suc (suc (suc n))))))) g h = absurd (omega arith)
 
-pub unary_number : (n : ℕ) → (n ≡ 2 → ⊥) → (n ≡ 3 → ⊥) → (L : Layout) (d a : Operand) → unary L (opcode_of n) d a ≡ []
-unfolding unary
-unary_number zero p q L d a = refl
-unary_number (suc zero) p q L d a = refl
-unary_number (suc (suc zero)) p q L d a = absurd (p refl)
-unary_number (suc (suc (suc zero))) p q L d a = absurd (q refl)
-unary_number (suc (suc (suc (suc zero)))) p q L d a = refl
-unary_number (suc (suc (suc (suc (suc zero))))) p q L d a = refl
-unary_number (suc (suc (suc (suc (suc (suc zero)))))) p q L d a = refl
-unary_number (suc (suc (suc (suc (suc (suc (suc n))))))) p q L d a = (high n).nothing L d a
+  -- the others have none: below not, and from lsl on, number 7
+  pub low_number : (n : ℕ) → n < 2 → macro L (opcode_of n) d a b ≡ []
+  unfolding macro
+  low_number zero h = refl
+  low_number (suc zero) h = refl
+  low_number (suc (suc n)) h = absurd (omega arith)
+
+  pub high_number : (n : ℕ) → 7 ≤ n → macro L (opcode_of n) d a b ≡ []
+  unfolding macro
+  high_number zero h = absurd (omega arith)
+  high_number (suc zero) h = absurd (omega arith)
+  high_number (suc (suc zero)) h = absurd (omega arith)
+  high_number (suc (suc (suc zero))) h = absurd (omega arith)
+  high_number (suc (suc (suc (suc zero)))) h = absurd (omega arith)
+  high_number (suc (suc (suc (suc (suc zero))))) h = absurd (omega arith)
+  high_number (suc (suc (suc (suc (suc (suc zero)))))) h = absurd (omega arith)
+  high_number (suc (suc (suc (suc (suc (suc (suc zero))))))) h = refl
+  high_number (suc (suc (suc (suc (suc (suc (suc (suc zero)))))))) h = refl
+  high_number (suc (suc (suc (suc (suc (suc (suc (suc (suc zero))))))))) h = refl
+  high_number (suc (suc (suc (suc (suc (suc (suc (suc (suc (suc zero)))))))))) h = refl
+  high_number (suc (suc (suc (suc (suc (suc (suc (suc (suc (suc (suc zero))))))))))) h = refl
+  high_number (suc (suc (suc (suc (suc (suc (suc (suc (suc (suc (suc (suc zero)))))))))))) h = refl
+  high_number (suc (suc (suc (suc (suc (suc (suc (suc (suc (suc (suc (suc (suc n))))))))))))) h = refl

@@ -8,8 +8,8 @@ use borrow.Author.Tests.{lt-ltb, le-ltb}
 use lib.ListN.{length, get_or}
 use Rattle.model.specs.declared.Layout.{Layout}
 use Rattle.model.specs.Layouts.{Known}
-use Rattle.model.specs.declared.Answer.{Answer}
-use Rattle.model.specs.declared.Answer.TheVariants.{Count}
+use Rattle.std.specs.Prelude.{Result, Ok, Err}
+use Rattle.model.specs.declared.Refusal.{Refusal}
 use Rattle.model.specs.Answers.{report, outcome, counted, refused}
 use Rattle.model.specs.Stored.{codes, line_count, lines}
 use Rattle.model.specs.Expansion.{expansion_in, start, joined, expand, written}
@@ -18,7 +18,7 @@ use Rattle.model.specs.Marks.{mark_check, Accepted}
 use Rattle.model.proofs.StoredLaws.{length-lines, codes-length}
 use Rattle.model.proofs.Acceptance.{accepted_right}
 use Rattle.model.proofs.ExpansionLaws.{expand-length, expansion_most, expansion_correct, mark_accepted}
-use Rattle.model.proofs.CheckAnswers.{mark_answers, NoCount, count-told, handed_on}
+use Rattle.model.proofs.CheckAnswers.{refusal, count-told, refusal-told, refusal_leaves}
 use Rattle.expander.specs.Starts.{looked_up, Starts, LookedUp}
 use Rattle.pieces.specs.Writes.{put}
 use Rattle.pieces.proofs.StoreWrites.{stored-correct}
@@ -61,14 +61,14 @@ module _ (L : Layout) (K : Known L) (p starts out : List ℕ) (A : Accepted (lin
 -- ---- the expansion of any stored program
 
 module _ (L : Layout) (p out : List ℕ) where
-  pub expand_stops : (a : Answer) → NoCount a → report a ≡ mark_check p → outcome (report a) (out ∷ []) ≡ expansion_in L p out
+  pub expand_stops : (a : Result ℕ (Refusal ℕ)) (f : Refusal ℕ) → a ≡ Err f → report a ≡ mark_check p → outcome (refusal f) (out ∷ []) ≡ expansion_in L p out
   unfolding expansion_in
-  expand_stops a k e = handed_on a k (mark_answers p) e (out ∷ []) _
+  expand_stops a f q e = refusal_leaves f (refusal-told q e) (out ∷ []) _
 
-  pub expand_goes_on : (o : List ℕ) (a r : Answer) (n : ℕ) → report a ≡ mark_check p → a ≡ Count n → outcome (report r) (o ∷ []) ≡ written (expand L (lines p)) out
+  pub expand_goes_on : (o : List ℕ) (a r : Result ℕ (Refusal ℕ)) (n : ℕ) → report a ≡ mark_check p → a ≡ Ok n → outcome (report r) (o ∷ []) ≡ written (expand L (lines p)) out
       → outcome (report r) (o ∷ []) ≡ expansion_in L p out
   unfolding expansion_in written
   expand_goes_on o a r n e q w = rw (count-told q e) w
 
-pub accepted_by : (p : List ℕ) (a : Answer) (n : ℕ) → report a ≡ mark_check p → a ≡ Count n → Accepted (lines p)
+pub accepted_by : (p : List ℕ) (a : Result ℕ (Refusal ℕ)) (n : ℕ) → report a ≡ mark_check p → a ≡ Ok n → Accepted (lines p)
 accepted_by p a n e q = mark_accepted p n (count-told q e)

@@ -7,7 +7,9 @@ use Prim.Native.Nat.{ℕ, ◌+◌, ◌≤◌, ◌<◌}
 use native.Mathlib.Numerals.{add-one}
 use native.Mathlib.Decide.{ℕ_discrete}
 use native.Mathlib.Omega.{arith}
-use borrow.Author.Tests.{lt-ltb}
+use borrow.Author.Tests.{lt-ltb, le-ltb}
+use Rattle.std.proofs.lemmas.List.{get_or_past}
+use Rattle.model.proofs.TestLaws.{below}
 use lib.ListN.{length, get_or, set}
 use lib.Seq.{get_or-set_same, get_or-set_other}
 use Rattle.model.specs.declared.Layout.{Layout}
@@ -50,6 +52,9 @@ up_to_next L s p i v h b e t g = go (ℕ_discrete t (i + 1))
 
 found : (s : List ℕ) (t : ℕ) → t ≤ max_accepted → looked_up s t ≡ get_or s t 0
 found s t h = rw (lt-ltb t (max_accepted + 1) (omega arith))
+
+pub looked_up_any : (s : List ℕ) (t : ℕ) → length s ≡ max_accepted + 1 → looked_up s t ≡ get_or s t 0
+looked_up_any s t h = below t (max_accepted + 1) (λ l. rw (lt-ltb t (max_accepted + 1) l)) (λ g. rw (le-ltb t (max_accepted + 1) g, get_or_past s t 0 (omega arith)))
 
 -- all of them are those of the lines and of the end
 pub starts_all : (L : Layout) (s p : List ℕ) (i : ℕ) → line_count p ≤ max_accepted → i ≡ line_count p → UpTo L s (lines p) i → Starts L s (lines p)

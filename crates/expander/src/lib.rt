@@ -9,9 +9,9 @@ ghost use Rattle.model.specs.Answers.{report, outcome};
 ghost use Rattle.model.specs.Layouts.{Known};
 ghost use Rattle.model.specs.Stored.{lines};
 ghost use Rattle.model.specs.Marks.{Accepted};
-ghost use Rattle.model.specs.Expansion.{expansion_in, expand_outcome, expand as expansionOf, written};
+ghost use Rattle.model.specs.Expansion.{expand_outcome, expand as expansionOf, written};
 
-use model::{Answer, LINE_WIDTH, Layout};
+use model::{Condition, LINE_WIDTH, Layout, Refusal};
 use starts::STARTS;
 
 mod sizes;
@@ -19,7 +19,7 @@ mod starts;
 mod writing;
 
 // The expansion of an accepted program: its count of lines, or 17 with nothing touched.
-fn write_expansion(layout: Layout, program: &[u16], out: &mut [u16]) -> Answer
+fn write_expansion(layout: Layout, program: &[u16], out: &mut [u16]) -> Result<u32, Refusal>
     requires { Known layout × Accepted (lines program.now) }
     ensures { outcome (report result) (out.new ∷ []) ≡ written (expansionOf layout (lines program.now)) out.old }
 {
@@ -28,37 +28,21 @@ fn write_expansion(layout: Layout, program: &[u16], out: &mut [u16]) -> Answer
     starts::fill_starts(layout, program, &mut starts);
     let total = starts[count];
     if out.len() / LINE_WIDTH < (total as usize) {
-        return Answer::Refused {
-            number: 17,
+        return Err(Refusal {
+            condition: Condition::NoRoom,
             line: 0,
-        };
+        });
     }
     writing::put_parts(layout, program, &starts, out);
-    Answer::Count(total as u32)
-}
-
-// The body of `expand`: the mark check's refusal, or the expansion of what it accepts.
-fn make_expansion(layout: Layout, program: &[u16], out: &mut [u16]) -> Answer
-    requires { Known layout }
-    ensures { outcome (report result) (out.new ∷ []) ≡ expansion_in layout program.now out.old }
-{
-    let checked = marks::check(program);
-    let Answer::Count(_) = checked else {
-        return checked;
-    };
-    write_expansion(layout, program, out)
+    Ok(total as u32)
 }
 
 // The expansion of a stored program in the layout of that position and spacing, at the front of a lent store: its count of lines, or 23, the
 // mark check's refusal, then 17. A refusal leaves the store untouched.
-pub fn expand(position: u8, spacing: u8, program: &[u16], out: &mut [u16]) -> Answer
+pub fn expand(position: u8, spacing: u8, program: &[u16], out: &mut [u16]) -> Result<u32, Refusal>
     ensures { outcome (report result) (out.new ∷ []) ≡ expand_outcome position spacing program.now out.old }
 {
-    if coding::is_six(position, spacing) {
-        return make_expansion(coding::layout_of(position, spacing), program, out);
-    }
-    Answer::Refused {
-        number: 23,
-        line: 0,
-    }
+    let layout = coding::layout_named(position, spacing)?;
+    marks::check(program)?;
+    write_expansion(layout, program, out)
 }

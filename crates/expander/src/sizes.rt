@@ -4,7 +4,6 @@ ghost use Rattle.model.specs.declared.Layout.{Layout};
 ghost use Rattle.model.specs.declared.Operand.{Operand};
 ghost use Rattle.model.specs.Stored.{opcode_of, operand_of, line_at};
 ghost use Rattle.model.specs.Expansion.{coded, load, scale, lookup, macro, size};
-ghost use Rattle.pieces.specs.Opcodes.{unary};
 
 use marks::names_public;
 use model::Layout;
@@ -20,8 +19,7 @@ fn load_size(a: u16) -> u16
 fn scale_size(layout: Layout) -> u16
     ensures { result ≡ length (scale layout) }
 {
-    let spaced = layout.spaced;
-    if spaced { 2 } else { 3 }
+    if layout.spaced { 2 } else { 3 }
 }
 
 // and, orr, xor, whichever their table and destination are: the loads, the scaling, two lines to combine, three to fetch and two to write back.
@@ -31,37 +29,27 @@ fn lookup_size(layout: Layout, a: u16, b: u16) -> u16
     load_size(a) + scale_size(layout) + load_size(b) + 7
 }
 
-// Of not a load, the flip and two lines to write back, of mov a load and those two; all other opcodes give nothing here.
-fn unary_size(o: u16, a: u16) -> u16
-    ensures { (L : Layout) (d : Operand) → result ≡ length (unary L (opcode_of o) d (coded L (operand_of a))) }
-{
-    if o == coding::NOT {
-        return load_size(a) + 3;
-    }
-    if o == coding::MOV {
-        return load_size(a) + 2;
-    }
-    0
-}
-
 // The lines of the macro of an opcode's number with the arguments that these become, whatever its destination is. By the number, since that is
-// told sooner than the opcode.
+// told sooner than the opcode. Of not a load, the flip and two lines to write back, of mov a load and those two; an opcode without a macro gives none.
 fn macro_size(layout: Layout, o: u16, a: u16, b: u16) -> u16
     ensures { (d : Operand) → result ≡ length (macro layout (opcode_of o) d (coded layout (operand_of a)) (coded layout (operand_of b))) }
 {
-    if (coding::AND <= o) & (o <= coding::XOR) {
-        return lookup_size(layout, a, b);
+    match o {
+        coding::NOT => load_size(a) + 3,
+        coding::MOV => load_size(a) + 2,
+        coding::AND..=coding::XOR => lookup_size(layout, a, b),
+        _ => 0,
     }
-    unary_size(o, a)
 }
 
 // The lines of the part of line i.
 pub fn size_at(layout: Layout, program: &[u16], i: usize) -> u16
     ensures { result ≡ size layout (line_at program.now i) }
 {
-    let n = coding::numbers_at(program, i);
-    if n[0] == 0 {
-        return 1;
+    let [mark, o, _, a, b, _] = coding::numbers_at(program, i);
+    if mark == 0 {
+        1
+    } else {
+        macro_size(layout, o, a, b)
     }
-    macro_size(layout, n[1], n[3], n[4])
 }

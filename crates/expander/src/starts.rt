@@ -1,5 +1,5 @@
 // The starts of the lines' parts: added up once, then looked up (request 05).
-ghost use Rattle.std.specs.Prelude.{◌≡◌, ◌+◌, ◌%◌, ◌≤◌, length};
+ghost use Rattle.std.specs.Prelude.{◌≡◌, ◌+◌, ◌%◌, ◌≤◌};
 ghost use Rattle.model.specs.Limits.{max_accepted};
 ghost use Rattle.model.specs.Stored.{target_of, target_code, line_count, lines};
 ghost use Rattle.model.specs.Expansion.{new_target};
@@ -13,17 +13,15 @@ pub const STARTS: usize = MAX_ACCEPTED + 1;
 
 // The starts of the lines and of the end, each the one before and that line's length: what is looked up in them is each line's and the end's.
 pub fn fill_starts(layout: Layout, program: &[u16], starts: &mut [u16; STARTS])
-    requires { (line_count program.now ≤ max_accepted) × (length starts.old ≡ max_accepted + 1) }
+    requires { line_count program.now ≤ max_accepted }
     ensures { Starts layout starts.new (lines program.now) }
 {
     let count = program.len() / LINE_WIDTH;
-    let mut i = 0;
     let mut sum = 0;
     starts[0] = 0;
-    while i < count {
+    for i in 0..count {
         sum += sizes::size_at(layout, program, i);
-        i += 1;
-        starts[i] = sum;
+        starts[i + 1] = sum;
     }
 }
 
@@ -31,8 +29,7 @@ pub fn fill_starts(layout: Layout, program: &[u16], starts: &mut [u16; STARTS])
 fn start_at(starts: &[u16; STARTS], t: u16) -> u16
     ensures { result ≡ looked_up starts.now t }
 {
-    let k = t as usize;
-    if k < STARTS { starts[k] } else { 0 }
+    starts.get(t as usize).copied().unwrap_or(0)
 }
 
 // The number of a target whose line is replaced by the start of that line's part, as a store of 16 bits takes it.
@@ -42,5 +39,5 @@ pub fn new_target(starts: &[u16; STARTS], t: u16) -> u16
     if t == 0 {
         return 0;
     }
-    ((1 + (start_at(starts, t - 1) as u32)) % 65536) as u16
+    start_at(starts, t - 1).wrapping_add(1)
 }

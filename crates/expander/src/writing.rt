@@ -9,7 +9,8 @@ use super::starts;
 use super::starts::STARTS;
 use model::{LINE_WIDTH, Layout, Mark};
 
-// The part of line i from line `at` on: an unmarked line itself, a marked one its macro. Handed back is the line past it.
+// The part of line i from line `at` on: an unmarked line itself, a marked one its macro. Handed back is the line past it. The layout, the program and
+// its starts go through two functions only: a struct of them would be made at one call and taken apart here.
 fn put_part(
     out: &mut [u16],
     at: usize,
@@ -21,23 +22,14 @@ fn put_part(
     requires { 6 * (at + size layout (line_at program.now i)) ≤ length out.old }
     ensures { Wrote out.old out.new at result (part layout (looked_up starts.now) (line_at program.now i)) }
 {
-    let n = coding::numbers_at(program, i);
-    let mark = n[0];
-    let o = coding::opcode_of(n[1]);
+    let [mark, o, d, a, b, target] = coding::numbers_at(program, i);
+    let o = coding::opcode_of(o);
     if mark == 0 {
-        let target = n[5];
         let start = starts::new_target(starts, target);
-        return pieces::put_line(out, at, Mark::Unmarked, o, n[2], n[3], n[4], start);
+        return pieces::put_line(out, at, Mark::Unmarked, o, d, a, b, start);
     }
-    pieces::put_macro(
-        out,
-        at,
-        layout,
-        o,
-        n[2],
-        pieces::coded(layout, n[3]),
-        pieces::coded(layout, n[4]),
-    )
+    let (a, b) = (pieces::coded(layout, a), pieces::coded(layout, b));
+    pieces::put_macro(out, at, layout, o, d, a, b)
 }
 
 // The parts of all lines, from the front on.
@@ -46,10 +38,8 @@ pub fn put_parts(layout: Layout, program: &[u16], starts: &[u16; STARTS], out: &
     ensures { out.new ≡ put out.old 0 (joined layout (looked_up starts.now) (lines program.now)) }
 {
     let count = program.len() / LINE_WIDTH;
-    let mut i = 0;
     let mut at = 0;
-    while i < count {
+    for i in 0..count {
         at = put_part(out, at, layout, program, i, starts);
-        i += 1;
     }
 }

@@ -1,23 +1,25 @@
 -- What the two programs print, by the conversion that was made: how long it is at most, and that it is told rightly. Assumes nothing.
 use Prim.Native.Nat.{ℕ, ◌≤◌, ◌<◌}
 use mathlib.Core.Bool.{Bool, true, false, cond}
-use mathlib.Core.Path.{◌≡◌, sym, ap, ap₂, ◌∙◌}
+use mathlib.Core.Path.{◌≡◌, refl, sym, ap, ap₂, ◌∙◌}
 use mathlib.Core.List.{List, [], ◌∷◌}
 use native.Mathlib.Omega.{arith}
 use lib.Dec.{ltb}
 use lib.ListN.{length}
-use borrow.Author.Tests.{eq-eqb, ne_eqb, lt-ltb, le-ltb}
-use Rattle.model.specs.Answers.{Report, counted, refused, Outcome, outcome, unless_refused, at_front}
+use borrow.Author.Tests.{ne_eqb, lt-ltb, le-ltb}
+use Rattle.model.specs.Answers.{number_of, report, Report, counted, refused, Outcome, outcome, unless_refused, at_front}
 use Rattle.model.specs.Text.{fitted}
 use Rattle.model.specs.Programs.{refusal_text, or_refusal}
 use Rattle.model.proofs.Acceptance.{accepted_right}
-use Rattle.model.proofs.CheckAnswers.{CountOrRefusal, counts, refuses}
+use Rattle.model.proofs.CheckAnswers.{CountOrRefusal, counts, refuses, refusal}
 use Rattle.printing.proofs.SizeLaws.{spelled_most}
 use Rattle.lines.proofs.LeftLaws.{all_fits}
 use Rattle.lines.proofs.LineTexts.{refusal_most}
-use Rattle.published.specs.Published.{take_in_check, taken_in, take_in_outcome, send_out_check, sent_out, send_out_outcome, published, conversion}
-use Rattle.published.specs.declared.Converted.{Converted}
-use Rattle.published.specs.declared.Converted.TheVariants.{Count, Refused as AtLine}
+use Rattle.published.specs.Published.{take_in_check, taken_in, take_in_outcome, send_out_check, sent_out, send_out_outcome, published}
+use Rattle.std.specs.Prelude.{Result, Ok, Err}
+use Rattle.model.specs.declared.Condition.{Condition}
+use Rattle.model.specs.declared.Condition.TheVariants.{NoNewline, NotFiveCommas, UnknownMark, UnknownOpcode, WrongFields, WrongOperand, TooManyLines, StoreFull, TooLong, ReservedPlace, WrongDestination, SensitiveArgument, NoMacro, NoBit, TargetAbove, NoRoom, WrongLength, WrongImage, TraceTooShort, SeveralValues, TooManyValues, UnknownLayout, WrongLabel, NoCounterpart, WrongWatch, WrongMap, WrongChoice, TooFewWords}
+use Rattle.model.specs.declared.Refusal.{Refusal}
 use Rattle.published.proofs.SendLaws.{text_long}
 use Rattle.published.proofs.RoundTrip.{sent, sent_out_lem, taken_accepted}
 use Rattle.published.proofs.HomeCalls.{send_answers, take_answers}
@@ -152,22 +154,53 @@ sent_prints_all input out h =
 
 -- ---- the answers of a conversion, told by the code
 
-module _ (a : Converted) (n : ℕ) (e : a ≡ Count n) where
-  pub count-narrow : Narrow (conversion a) → n < 4294967296
+module _ (a : Result ℕ (Refusal ℕ)) (n : ℕ) (e : a ≡ Ok n) where
+  pub count-narrow : Narrow (report a) → n < 4294967296
   count-narrow h = rw e at h
 
-  pub tell_count : (out : List ℕ) → outcome (counted n) (out ∷ []) ≡ told_text (conversion a) out
+  pub tell_count : (out : List ℕ) → outcome (counted n) (out ∷ []) ≡ told_text (report a) out
   unfolding told_text
   tell_count out = rw e
 
-module _ (a : Converted) (k l : ℕ) (e : a ≡ AtLine k l) where
-  pub line_narrow : Narrow (conversion a) → l < 65536
+-- only no room is 17
+room_17 : (c : Condition) → number_of c ≡ 17 → c ≡ NoRoom
+room_17 NoNewline q = absurd (omega arith)
+room_17 NotFiveCommas q = absurd (omega arith)
+room_17 UnknownMark q = absurd (omega arith)
+room_17 UnknownOpcode q = absurd (omega arith)
+room_17 WrongFields q = absurd (omega arith)
+room_17 WrongOperand q = absurd (omega arith)
+room_17 TooManyLines q = absurd (omega arith)
+room_17 StoreFull q = absurd (omega arith)
+room_17 TooLong q = absurd (omega arith)
+room_17 ReservedPlace q = absurd (omega arith)
+room_17 WrongDestination q = absurd (omega arith)
+room_17 SensitiveArgument q = absurd (omega arith)
+room_17 NoMacro q = absurd (omega arith)
+room_17 NoBit q = absurd (omega arith)
+room_17 TargetAbove q = absurd (omega arith)
+room_17 NoRoom q = refl
+room_17 WrongLength q = absurd (omega arith)
+room_17 WrongImage q = absurd (omega arith)
+room_17 TraceTooShort q = absurd (omega arith)
+room_17 SeveralValues q = absurd (omega arith)
+room_17 TooManyValues q = absurd (omega arith)
+room_17 UnknownLayout q = absurd (omega arith)
+room_17 WrongLabel q = absurd (omega arith)
+room_17 NoCounterpart q = absurd (omega arith)
+room_17 WrongWatch q = absurd (omega arith)
+room_17 WrongMap q = absurd (omega arith)
+room_17 WrongChoice q = absurd (omega arith)
+room_17 TooFewWords q = absurd (omega arith)
+
+module _ (a : Result ℕ (Refusal ℕ)) (f : Refusal ℕ) (e : a ≡ Err f) where
+  pub line_narrow : Narrow (report a) → f.line < 65536
   line_narrow h = rw e at h
 
-  pub tell_room : (out : List ℕ) → k ≡ 17 → outcome (refused k l) (out ∷ []) ≡ told_text (conversion a) out
+  pub tell_room : (out : List ℕ) → f.condition ≡ NoRoom → outcome (refusal f) (out ∷ []) ≡ told_text (report a) out
   unfolding told_text
-  tell_room out q = rw (e, eq-eqb k 17 q)
+  tell_room out q = rw (e, q)
 
-  pub tell_line : (out : List ℕ) → (k ≡ 17 → ⊥) → fitted (refusal_text k l) out ≡ told_text (conversion a) out
+  pub tell_line : (out : List ℕ) → (f.condition ≡ NoRoom → ⊥) → fitted (refusal_text (number_of f.condition) f.line) out ≡ told_text (report a) out
   unfolding told_text
-  tell_line out q = rw (e, ne_eqb k 17 q)
+  tell_line out q = rw (e, ne_eqb (number_of f.condition) 17 (λ z. q (room_17 f.condition z)))

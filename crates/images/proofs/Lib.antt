@@ -1,4 +1,4 @@
-pub mod Tables
+pub mod TablePage
 pub mod Ranges
 pub mod KindRanges
 pub mod Carrying

@@ -8,7 +8,8 @@ use native.Mathlib.Nat.{zero-add}
 use native.Mathlib.Omega.{arith}
 use borrow.Author.Tests.{lt-ltb, ne_eqb}
 use lib.Dec.{ltb, eqb}
-use lib.ListN.{length, get_or}
+use borrow.Rule.Slice.PartMut.{put_mid}
+use lib.ListN.{length, get_or, take, drop}
 use Rattle.model.specs.declared.Layout.{Layout}
 use Rattle.model.specs.declared.Kind.{Kind}
 use Rattle.model.specs.declared.Kind.TheVariants.{Neither, Public, Sensitive}
@@ -22,7 +23,7 @@ use Rattle.model.proofs.BackLaws.{back-bits}
 use Rattle.images.specs.Pages.{paged}
 use Rattle.images.specs.Ranges.{placed}
 use Rattle.images.specs.Moving.{moved}
-use Rattle.images.proofs.Tables.{with_page}
+use Rattle.images.proofs.TablePage.{with_page}
 use Rattle.images.proofs.Moving.{moved-get_or}
 
 pub back-placed : (L : Layout) (v : State) → map_at (placed L.one 1 0) 0 v ≡ back L v
@@ -60,12 +61,18 @@ front_same L i b c h Neither e = rw (e, front-fixed L i h e)
 front_same L i b c h Public e = rw e
 front_same L i b c h Sensitive e = rw e
 
-paged-placed : (L : Layout) → Known L → (key x y : ℕ) (s w : State) → length s ≡ state_size → length w ≡ state_size
-    → ((i : ℕ) → i < state_size → get_or w i 0 ≡ by_kind (kind i) (fixed L i) (get_or s i 0) (cond (eqb (get_or s i 0) key) x y)) → paged L 288 (map_at (placed key x y) 0 s) ≡ w
-paged-placed L K key x y s w hs hw is =
-    with_page L K (map_at (placed key x y) 0 s) w (map_at-length (placed key x y) 0 s ∙ hs) hw
-    (λ i g. placed-get_or key x y s hs i (omega arith) ∙ front_same L i (get_or s i 0) _ g (kind i) refl ∙ sym (is i (omega arith)))
-    (λ i g h. (placed-get_or key x y s hs i h ∙ rw (table_cell i g), is i h ∙ rw (table_cell i g)))
+module _ (L : Layout) (K : Known L) (key x y : ℕ) (s w m page : State) (hs : length s ≡ state_size) (hw : length w ≡ state_size)
+    (is : (i : ℕ) → i < state_size → get_or w i 0 ≡ by_kind (kind i) (fixed L i) (get_or s i 0) (cond (eqb (get_or s i 0) key) x y))
+    (q : m ≡ map_at (placed key x y) 0 s) (e : page ≡ paged L (take 256 (drop 288 m))) where
+  place : (i : ℕ) → i < state_size → get_or m i 0 ≡ by_kind (kind i) 0 (get_or s i 0) (cond (eqb (get_or s i 0) key) x y)
+  place i h = ap (λ (l : State). get_or l i 0) q ∙ placed-get_or key x y s hs i h
+
+  paged-placed : put_mid 288 256 m page ≡ w
+  paged-placed =
+      let long : length m ≡ state_size = ap length q ∙ map_at-length (placed key x y) 0 s ∙ hs in
+      with_page L K m w page long hw
+      (λ i g. place i (omega arith) ∙ front_same L i (get_or s i 0) _ g (kind i) refl ∙ sym (is i (omega arith)))
+      (λ i g h. (place i h ∙ rw (table_cell i g), is i h ∙ rw (table_cell i g))) e
 
 -- ---- images
 
@@ -74,10 +81,11 @@ unfolding code
 by_code L zero = refl
 by_code L (suc b) = rw (ne_eqb (suc b) 0 (λ q. omega arith))
 
-pub image-placed : (L : Layout) → Known L → (s : State) → length s ≡ state_size → paged L 288 (map_at (placed 0 L.zero L.one) 0 s) ≡ image L s
+pub image-placed : (L : Layout) → Known L → (s m page : State) → length s ≡ state_size → m ≡ map_at (placed 0 L.zero L.one) 0 s
+    → page ≡ paged L (take 256 (drop 288 m)) → put_mid 288 256 m page ≡ image L s
 unfolding image image_at
-image-placed L K s h =
-    paged-placed L K 0 L.zero L.one s (image L s) h (image-length L s ∙ h)
+image-placed L K s m page h =
+    paged-placed L K 0 L.zero L.one s (image L s) m page h (image-length L s ∙ h)
     (λ i g. map_at-get_or (image_at L) 0 s i (omega arith) ∙ ap (λ (j : ℕ). image_at L j (get_or s i 0)) (zero-add i) ∙ ap (by_kind (kind i) (fixed L i) (get_or s i 0)) (by_code L (get_or s i 0)))
 
 -- ---- moved images
@@ -96,8 +104,9 @@ moves_at old new i x Neither e = rw e
 moves_at old new i x Public e = rw e
 moves_at old new i x Sensitive e = rw e (by_old_code old new x)
 
-pub moved-placed : (old new : Layout) → Known new → (v : State) → length v ≡ state_size → paged new 288 (map_at (placed old.one new.one new.zero) 0 v) ≡ moved old new v
+pub moved-placed : (old new : Layout) → Known new → (v m page : State) → length v ≡ state_size → m ≡ map_at (placed old.one new.one new.zero) 0 v
+    → page ≡ paged new (take 256 (drop 288 m)) → put_mid 288 256 m page ≡ moved old new v
 unfolding code
-moved-placed old new K v h =
-    paged-placed new K old.one new.one new.zero v (moved old new v) h (image-length new (back old v) ∙ (back-bits old v h).long)
+moved-placed old new K v m page h =
+    paged-placed new K old.one new.one new.zero v (moved old new v) m page h (image-length new (back old v) ∙ (back-bits old v h).long)
     (λ i g. moved-get_or old new v h i g ∙ moves_at old new i (get_or v i 0) (kind i) refl)

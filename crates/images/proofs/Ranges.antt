@@ -1,20 +1,26 @@
--- Tests and fills of some of a state's places: one place more, and all places of a state by ranges one after the other.
+-- A state by ranges of its places, one after the other: a test of the bytes in each, and a store that gets its bytes range by range.
 -- Assumes nothing.
 use mathlib.Core.Path.{◌≡◌, refl, sym, ap, ◌∙◌}
 use mathlib.Core.Bool.{Bool, true, false, ◌&&◌}
 use mathlib.Core.List.{List, [], ◌∷◌, ◌++◌}
-use Prim.Native.Nat.{ℕ, zero, suc, ◌+◌, ◌-◌, ◌≤◌, ◌<◌}
+use Prim.Native.Nat.{ℕ, zero, suc, ◌+◌, ◌≤◌, ◌<◌}
 use native.Mathlib.Nat.{zero-add, add-zero}
+use native.Mathlib.Numerals.{add-one}
 use native.Mathlib.Omega.{arith}
-use lib.ListN.{length, get_or, set, take, drop, length-set, drop_of_length-le}
-use lib.Seq.{drop-cons, take-suc, set_at, take_all, length-take-le, append_snoc}
+use borrow.Rule.Slice.PartMut.{put_mid}
+use lib.Dec.{eqb}
+use lib.ListN.{length, get_or, set, take, drop, length-take, length-drop, length-append, drop_of_length-le}
+use lib.Seq.{drop-cons, take-suc, set_at, take_all, take_at, drop_at, drop-drop, length-take-le, append_snoc, get_or-take, get_or-drop, ext_get_or}
+use Rattle.std.specs.List.{list_all}
+use Rattle.std.specs.Cmp.Lexicographic.{pointwise}
+use Rattle.std.proofs.lemmas.List.{append-nil, append_assoc, take_more}
+use Rattle.std.proofs.lemmas.List.Folds.{list_all-append}
 use Rattle.model.specs.Images.{map_at, every}
 use Rattle.model.proofs.PlaceLaws.{map_at-length, map_at-get_or}
-use Rattle.images.specs.Ranges.{between, filled}
 
 -- ---- tests
 
-and_true : (x : Bool) → (x && true) ≡ x
+pub and_true : (x : Bool) → (x && true) ≡ x
 and_true true = refl
 and_true false = refl
 
@@ -22,95 +28,82 @@ and_assoc : (x y z : Bool) → (x && (y && z)) ≡ ((x && y) && z)
 and_assoc true y z = refl
 and_assoc false y z = refl
 
-between_snoc : (f : ℕ → ℕ → Bool) (i n : ℕ) (s : List ℕ) → between f i (suc n) s ≡ (between f i n s && f (i + n) (get_or s (i + n) 0))
-unfolding between
-between_snoc f i zero s = and_true (f i (get_or s i 0)) ∙ ap (λ (j : ℕ). f j (get_or s j 0)) (sym (add-zero i))
-between_snoc f i (suc n) s =
-    let q : suc i + n ≡ i + suc n = omega arith in
-    ap (λ (b : Bool). f i (get_or s i 0) && b) (between_snoc f (suc i) n s ∙ ap (λ (j : ℕ). between f (suc i) n s && f j (get_or s j 0)) q)
-    ∙ and_assoc (f i (get_or s i 0)) (between f (suc i) n s) (f (i + suc n) (get_or s (i + suc n) 0))
+-- one byte more: of the bytes before k the tests gave `good`
+pub good_more : (p : ℕ → Bool) (l : List ℕ) (k : ℕ) (good x : Bool) → k < length l → good ≡ list_all p (take k l) → x ≡ p (get_or l k 0)
+    → (good && x) ≡ list_all p (take (k + 1) l)
+good_more p l k good x h e q =
+    rw (take_more l k 0 h, list_all-append p (take k l) (get_or l k 0 ∷ []), e, q) (ap (λ (b : Bool). list_all p (take k l) && b) (sym (and_true (p (get_or l k 0)))))
 
--- one place more: of the places before i the tests gave `good`
-pub good_next : (f : ℕ → ℕ → Bool) (s : List ℕ) (start i : ℕ) (good x : Bool) → start ≤ i → good ≡ between f start (i - start) s → x ≡ f i (get_or s i 0)
-    → (good && x) ≡ between f start (i + 1 - start) s
-good_next f s start i good x h e q =
-    let m : i + 1 - start ≡ suc (i - start) = omega arith in
-    let r : start + (i - start) ≡ i = omega arith in
-    rw (m, e, q) (sym (between_snoc f start (i - start) s ∙ ap (λ (j : ℕ). between f start (i - start) s && f j (get_or s j 0)) r))
-
-pub good_none : (f : ℕ → ℕ → Bool) (start : ℕ) (s : List ℕ) → true ≡ between f start (start - start) s
-unfolding between
-good_none f start s = let q : start - start ≡ 0 = omega arith in rw q
-
-pub good_all : (f : ℕ → ℕ → Bool) (s : List ℕ) (start end i : ℕ) (good : Bool) → i ≤ end → end ≤ i → good ≡ between f start (i - start) s → good ≡ between f start (end - start) s
-good_all f s start end i good h g e = let q : i ≡ end = omega arith in rw (← q) e
-
--- two tests that agree there
-pub between_same : (f g : ℕ → ℕ → Bool) (i n : ℕ) (s : List ℕ) → ((j : ℕ) → i ≤ j → j < i + n → f j (get_or s j 0) ≡ g j (get_or s j 0)) → between f i n s ≡ between g i n s
-unfolding between
-between_same f g i zero s h = refl
-between_same f g i (suc n) s h = rw (h i (omega arith) (omega arith), between_same f g (suc i) n s (λ j a b. h j (omega arith) (omega arith)))
-
-between_true : (i n : ℕ) (s : List ℕ) → between (λ i v. true) i n s ≡ true
-unfolding between
-between_true i zero s = refl
-between_true i (suc n) s = between_true (suc i) n s
+all_true : (l : List ℕ) → list_all (λ v. true) l ≡ true
+all_true [] = refl
+all_true (x ∷ xs) = all_true xs
 
 module _ (f : ℕ → ℕ → Bool) (s : List ℕ) where
-  -- the places from i on: n of them, then the rest
-  split : (i n : ℕ) → i + n ≤ length s → every f i (drop i s) ≡ (between f i n s && every f (i + n) (drop (i + n) s))
-  unfolding every between
-  split i zero h = ap (λ (j : ℕ). every f j (drop j s)) (sym (add-zero i))
-  split i (suc n) h =
+  -- the places from i on: n of them, of whose bytes the test says what another says, then the rest
+  pub tested : (p : ℕ → Bool) (i n : ℕ) → i + n ≤ length s → ((j : ℕ) → i ≤ j → j < i + n → f j (get_or s j 0) ≡ p (get_or s j 0))
+      → every f i (drop i s) ≡ (list_all p (take n (drop i s)) && every f (i + n) (drop (i + n) s))
+  unfolding every
+  tested p i zero h e = ap (λ (j : ℕ). every f j (drop j s)) (sym (add-zero i))
+  tested p i (suc n) h e =
       let q : suc i + n ≡ i + suc n = omega arith in
-      rw (drop-cons s i 0 (omega arith))
-      (ap (λ (b : Bool). f i (get_or s i 0) && b) (split (suc i) n (omega arith) ∙ ap (λ (j : ℕ). between f (suc i) n s && every f j (drop j s)) q)
-      ∙ and_assoc (f i (get_or s i 0)) (between f (suc i) n s) (every f (i + suc n) (drop (i + suc n) s)))
-
-  -- of which the test says what another says
-  pub tested : (g : ℕ → ℕ → Bool) (i n : ℕ) → i + n ≤ length s → ((j : ℕ) → i ≤ j → j < i + n → f j (get_or s j 0) ≡ g j (get_or s j 0))
-      → every f i (drop i s) ≡ (between g i n s && every f (i + n) (drop (i + n) s))
-  tested g i n h e = split i n h ∙ ap (λ (b : Bool). b && every f (i + n) (drop (i + n) s)) (between_same f g i n s e)
+      rw (drop-cons s i 0 (omega arith), e i (omega arith) (omega arith))
+      (ap (λ (b : Bool). p (get_or s i 0) && b)
+      (tested p (suc i) n (omega arith) (λ j a b. e j (omega arith) (omega arith)) ∙ ap (λ (j : ℕ). list_all p (take n (drop (suc i) s)) && every f j (drop j s)) q)
+      ∙ and_assoc (p (get_or s i 0)) (list_all p (take n (drop (suc i) s))) (every f (i + suc n) (drop (i + suc n) s)))
 
   -- which pass
   pub skipped : (i n : ℕ) → i + n ≤ length s → ((j : ℕ) → i ≤ j → j < i + n → f j (get_or s j 0) ≡ true) → every f i (drop i s) ≡ every f (i + n) (drop (i + n) s)
-  skipped i n h e = tested (λ i v. true) i n h e ∙ ap (λ (b : Bool). b && every f (i + n) (drop (i + n) s)) (between_true i n s)
+  skipped i n h e = tested (λ v. true) i n h e ∙ ap (λ (b : Bool). b && every f (i + n) (drop (i + n) s)) (all_true (take n (drop i s)))
 
   pub none_left : (i : ℕ) → length s ≤ i → every f i (drop i s) ≡ true
   unfolding every
   none_left i h = rw (drop_of_length-le s h)
 
--- ---- fills
+-- each byte is that of another list, of the bytes before k and of one more
+pub pointwise_more : (l page : List ℕ) (k : ℕ) (good x : Bool) → k < length l → k < length page → good ≡ pointwise eqb (take k l) (take k page)
+    → x ≡ eqb (get_or l k 0) (get_or page k 0) → (good && x) ≡ pointwise eqb (take (k + 1) l) (take (k + 1) page)
+pointwise_more l page k good x h g e q = rw (add-one k, e, q) (sym (go l page k h g))
+  where
+    go : (l page : List ℕ) (k : ℕ) → k < length l → k < length page
+        → pointwise eqb (take (suc k) l) (take (suc k) page) ≡ (pointwise eqb (take k l) (take k page) && eqb (get_or l k 0) (get_or page k 0))
+    go [] page k h g = absurd (omega arith)
+    go (x ∷ xs) [] k h g = absurd (omega arith)
+    go (x ∷ xs) (y ∷ ys) zero h g = and_true (eqb x y)
+    go (x ∷ xs) (y ∷ ys) (suc k) h g =
+        ap (λ (b : Bool). eqb x y && b) (go xs ys k (omega arith) (omega arith)) ∙ and_assoc (eqb x y) (pointwise eqb (take k xs) (take k ys)) (eqb (get_or xs k 0) (get_or ys k 0))
 
--- one place more
-pub filled_next : (g : ℕ → ℕ) (old new : List ℕ) (start i x : ℕ) → start ≤ i → new ≡ filled g start (i - start) old → x ≡ g i
-    → set new i x ≡ filled g start (i + 1 - start) old
-unfolding filled
-filled_next g old new start i x h e q =
-    let m : i + 1 - start ≡ suc (i - start) = omega arith in
-    let r : start + (i - start) ≡ i = omega arith in
-    rw (m, r, e, q)
+pub every-pointwise : (f : ℕ → ℕ → Bool) (i : ℕ) (l page : List ℕ) → length l ≡ length page
+    → ((k : ℕ) → k < length page → f (i + k) (get_or l k 0) ≡ eqb (get_or l k 0) (get_or page k 0)) → every f i l ≡ pointwise eqb l page
+unfolding every
+every-pointwise f i [] [] h e = refl
+every-pointwise f i [] (y ∷ ys) h e = absurd (omega arith)
+every-pointwise f i (x ∷ xs) [] h e = absurd (omega arith)
+every-pointwise f i (x ∷ xs) (y ∷ ys) h e =
+    let one : f i x ≡ eqb x y = ap (λ (j : ℕ). f j x) (sym (add-zero i)) ∙ e 0 (omega arith) in
+    rw (one, every-pointwise f (suc i) xs ys (omega arith) (λ k g. ap (λ (j : ℕ). f j (get_or xs k 0)) (omega arith) ∙ e (suc k) (omega arith)))
 
-pub filled_none : (g : ℕ → ℕ) (start : ℕ) (l : List ℕ) → l ≡ filled g start (start - start) l
-unfolding filled
-filled_none g start l = let q : start - start ≡ 0 = omega arith in rw q
-
-pub filled_all : (g : ℕ → ℕ) (old new : List ℕ) (start end i : ℕ) → i ≤ end → end ≤ i → new ≡ filled g start (i - start) old → new ≡ filled g start (end - start) old
-filled_all g old new start end i h q e = let p : i ≡ end = omega arith in rw (← p) e
-
-pub filled-length : (g : ℕ → ℕ) (start n : ℕ) (l : List ℕ) → length (filled g start n l) ≡ length l
-unfolding filled
-filled-length g start zero l = refl
-filled-length g start (suc n) l = length-set (filled g start n l) (start + n) (g (start + n)) ∙ filled-length g start n l
+-- ---- writes
 
 -- the first i places of n, then d
-abbrev front : List ℕ → List ℕ → ℕ → List ℕ
+abbrev pub front : List ℕ → List ℕ → ℕ → List ℕ
 front n d i = take i n ++ drop i d
 
-front-next : (n d : List ℕ) (i : ℕ) → i < length n → i < length d → set (front n d i) i (get_or n i 0) ≡ front n d (suc i)
+pub front-next : (n d : List ℕ) (i : ℕ) → i < length n → i < length d → set (front n d i) i (get_or n i 0) ≡ front n d (i + 1)
 front-next n d i h g =
-    rw (drop-cons d i 0 g, take-suc n i 0 h)
+    rw (add-one i, drop-cons d i 0 g, take-suc n i 0 h)
     (set_at (take i n) (get_or d i 0) (drop (suc i) d) (get_or n i 0) i (length-take-le i n (omega arith)) ∙ sym (append_snoc (take i n) (get_or n i 0) (drop (suc i) d)))
+
+pub front_all : (n d : List ℕ) (i : ℕ) → length n ≤ i → length d ≤ i → front n d i ≡ n
+front_all n d i h g = rw (take_all i n h, drop_of_length-le d {i = i} g) (append-nil n)
+
+one_more : (l : List ℕ) (i n : ℕ) → ((r : List ℕ) → take (i + n) r ≡ take i r ++ take n (drop i r)) → take (suc (i + n)) l ≡ take (suc i) l ++ take n (drop (suc i) l)
+one_more [] i zero h = refl
+one_more [] i (suc n) h = refl
+one_more (x ∷ xs) i n h = ap (λ (r : List ℕ). x ∷ r) (h xs)
+
+take_add : (l : List ℕ) (i n : ℕ) → take (i + n) l ≡ take i l ++ take n (drop i l)
+take_add l zero n = ap (λ (j : ℕ). take j l) (zero-add n)
+take_add l (suc i) n = let q : suc i + n ≡ suc (i + n) = omega arith in rw q (one_more l i n (λ r. take_add r i n))
 
 -- a store d that gets the bytes that f makes of the state s, range by range
 module _ (f : ℕ → ℕ → ℕ) (s d : List ℕ) (same : length s ≡ length d) where
@@ -121,19 +114,23 @@ module _ (f : ℕ → ℕ → ℕ) (s d : List ℕ) (same : length s ≡ length 
   pub none_done : Done d 0
   none_done = refl
 
-  pub range_done : (g : ℕ → ℕ) (l : List ℕ) (i n : ℕ) → i + n ≤ length s → ((j : ℕ) → i ≤ j → j < i + n → f j (get_or s j 0) ≡ g j) → Done l i → Done (filled g i n l) (i + n)
-  unfolding filled
-  range_done g l i zero h e q = q ∙ ap (front (map_at f 0 s) d) (sym (add-zero i))
-  range_done g l i (suc n) h e q =
-      let w = range_done g l i n (omega arith) (λ j a b. e j a (omega arith)) q in
-      let m : i + suc n ≡ suc (i + n) = omega arith in
-      let x : g (i + n) ≡ get_or (map_at f 0 s) (i + n) 0 =
-      sym (e (i + n) (omega arith) (omega arith)) ∙ ap (λ (j : ℕ). f j (get_or s (i + n) 0)) (sym (zero-add (i + n))) ∙ sym (map_at-get_or f 0 s (i + n) (omega arith)) in
-      rw (w, x, m) (front-next (map_at f 0 s) d (i + n) (omega (arith, map_at-length f 0 s)) (omega arith))
+  pub range_done : (l part : List ℕ) (i n : ℕ) → i + n ≤ length s → length part ≡ n → ((j : ℕ) → j < n → get_or part j 0 ≡ f (i + j) (get_or s (i + j) 0))
+      → Done l i → Done (put_mid i n l part) (i + n)
+  range_done l part i n h long e q =
+      let m = map_at f 0 s in
+      let w : length m ≡ length s = map_at-length f 0 s in
+      let is : part ≡ take n (drop i m) =
+      ext_get_or 0 part (take n (drop i m)) (omega (arith, length-take n (drop i m), length-drop i m))
+      (λ j g. e j (omega arith) ∙ sym (get_or-take n (drop i m) j 0 (omega arith) ∙ get_or-drop i m j 0 ∙ map_at-get_or f 0 s (i + j) (omega arith)
+      ∙ ap (λ (k : ℕ). f k (get_or s (i + j) 0)) (zero-add (i + j)))) in
+      let a : length (take i m) ≡ i = length-take-le i m (omega arith) in
+      rw (q, take_at (take i m) (drop i d) i a, drop_at (take i m) (drop i d) i a, drop-drop n i d, is, take_add m i n)
+      (sym (append_assoc (take i m) (take n (drop i m)) (drop (i + n) d)))
+
+  pub done_long : (l : List ℕ) (i : ℕ) → i ≤ length s → Done l i → length l ≡ length d
+  done_long l i h q =
+      let m = map_at f 0 s in
+      omega (arith, ap length q, length-append (take i m) (drop i d), length-take-le i m (omega (arith, map_at-length f 0 s)), length-drop i d)
 
   pub all_done : (l : List ℕ) (i : ℕ) → length s ≤ i → Done l i → l ≡ map_at f 0 s
-  all_done l i h q = rw (q, take_all i (map_at f 0 s) (omega (arith, map_at-length f 0 s)), drop_of_length-le d {i = i} (omega arith)) (append_end (map_at f 0 s))
-    where
-      append_end : (l : List ℕ) → l ++ [] ≡ l
-      append_end [] = refl
-      append_end (x ∷ l) = ap (λ (r : List ℕ). x ∷ r) (append_end l)
+  all_done l i h q = q ∙ front_all (map_at f 0 s) d i (omega (arith, map_at-length f 0 s)) (omega arith)

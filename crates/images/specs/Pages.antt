@@ -1,9 +1,10 @@
 -- The table page of an image, as it is made: the constant tables are those of position 0, and each entry of them is scaled and placed by the
 -- layout. Assumes nothing.
-use Rattle.std.specs.Prelude.{◌≡◌, Bool, cond, List, ℕ, zero, suc, ◌+◌, ◌*◌, ◌≤◌, eqb, length, get_or, replicate, set}
+use Rattle.std.specs.Prelude.{◌≡◌, Bool, cond, List, ℕ, zero, suc, ◌+◌, ◌*◌, eqb, get_or, replicate, set}
 use Rattle.model.specs.declared.Layout.{Layout}
 use Rattle.model.specs.declared.Opcode.{Opcode}
 use Rattle.model.specs.declared.Opcode.TheVariants.{And, Orr, Xor}
+use Rattle.images.specs.declared.Tables.{Tables}
 use Rattle.model.specs.Layouts.{layout_of}
 use Rattle.model.specs.Code.{entry, page}
 use Rattle.model.specs.Images.{map_at}
@@ -13,26 +14,27 @@ unfoldable pub entries : Bool → Opcode → List ℕ
 unfolding map_at entry
 entries spaced op = map_at (λ i x. entry (layout_of 0 (cond spaced 1 0)) op i) 0 (replicate 16 0)
 
--- 16 entries that can be scaled by 4 and stay bytes
-abbrev pub Small : List ℕ → Type 0
-Small table = (length table ≡ 16) × ((k : ℕ) → get_or table k 0 ≤ 4)
+-- those of that spacing
+pub record IsTables (spaced : Bool) (t : Tables) : Type 0 where
+  pub and : t.and ≡ entries spaced And
+  pub orr : t.orr ≡ entries spaced Orr
+  pub xor : t.xor ≡ entries spaced Xor
 
 -- an entry of each of the three tables written, times the code of 1, that of the first to a place and the others where their tables are; nothing
 -- where that of the first is 0
 unfoldable pub entered : Layout → ℕ → ℕ → ℕ → ℕ → List ℕ → List ℕ
 entered L and orr xor at l = cond (eqb and 0) l (set (set (set l at (L.one * and)) (at + L.orr) (L.one * orr)) (at + L.xor) (L.one * xor))
 
--- the first k entries of the three tables copied to a page that begins at `start`, each to its place in the layout
-unfoldable pub copied : Layout → ℕ → List ℕ → List ℕ → List ℕ → List ℕ → ℕ → List ℕ
+-- the first k entries of the three tables copied to a page, each to its place in the layout
+unfoldable pub copied : Layout → List ℕ → List ℕ → List ℕ → List ℕ → ℕ → List ℕ
 unfolding entered
-copied L start and orr xor l zero = l
-copied L start and orr xor l (suc k) = entered L (get_or and k 0) (get_or orr k 0) (get_or xor k 0) (start + L.one * k) (copied L start and orr xor l k)
+copied L and orr xor l zero = l
+copied L and orr xor l (suc k) = entered L (get_or and k 0) (get_or orr k 0) (get_or xor k 0) (L.one * k) (copied L and orr xor l k)
 
 -- and the two codes
-unfoldable pub paged : Layout → ℕ → List ℕ → List ℕ
+unfoldable pub paged : Layout → List ℕ → List ℕ
 unfolding entries copied
-paged L start l =
-    set (set (copied L start (entries L.spaced And) (entries L.spaced Orr) (entries L.spaced Xor) l 16) (start + 240) L.zero) (start + 240 + 1) L.one
+paged L l = set (set (copied L (entries L.spaced And) (entries L.spaced Orr) (entries L.spaced Xor) l 16) 240 L.zero) 241 L.one
 
 -- the bytes of the table page
 unfoldable pub page_bytes : Layout → List ℕ

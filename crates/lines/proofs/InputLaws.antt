@@ -6,22 +6,22 @@ use mathlib.Core.List.{List, [], ◌∷◌}
 use native.Mathlib.Omega.{arith}
 use lib.ListN.{length, take, drop, length-append}
 use lib.Seq.{take_at}
-use Rattle.model.specs.declared.Answer.{Answer}
-use Rattle.model.specs.declared.Answer.TheVariants.{Count}
+use Rattle.std.specs.Prelude.{Result, Ok, Err}
+use Rattle.model.specs.declared.Refusal.{Refusal}
 use Rattle.model.specs.Limits.{line_width, max_lines}
 use Rattle.model.specs.Answers.{Report, report, counted, Outcome, outcome, at_front}
 use Rattle.model.specs.Text.{Reading, reading, read_outcome}
 use Rattle.model.proofs.StoredLaws.{codes-length}
 use Rattle.model.proofs.RoundTrip.{read_outcome_lem, reads-back}
 use Rattle.model.proofs.OutcomeLaws.{first_store}
-use Rattle.model.proofs.CheckAnswers.{CountOrRefusal, reading_answers, NoCount, count-told, Refusal, no_count_refuses}
+use Rattle.model.proofs.CheckAnswers.{refusal, count-told, refusal-told}
 use Rattle.lines.specs.Reading.{read_input}
 
 pub read_input_lem : (input : List ℕ) → read_input input ≡ reading max_lines 0 max_lines input
 unfolding read_input
 read_input_lem input = refl
 
-module _ (input store new : List ℕ) (a : Answer) (same : reading max_lines 0 (length store / line_width) input ≡ read_input input) (e : outcome (report a) (new ∷ []) ≡ read_outcome input store) where
+module _ (input store new : List ℕ) (a : Result ℕ (Refusal ℕ)) (same : reading max_lines 0 (length store / line_width) input ≡ read_input input) (e : outcome (report a) (new ∷ []) ≡ read_outcome input store) where
   outcome_is : outcome (report a) (new ∷ []) ≡ outcome (read_input input).answer (at_front (read_input input).stored store ∷ [])
   outcome_is = e ∙ read_outcome_lem input store ∙ ap (λ (r : Reading). outcome r.answer (at_front r.stored store ∷ [])) same
 
@@ -31,12 +31,10 @@ module _ (input store new : List ℕ) (a : Answer) (same : reading max_lines 0 (
   store_is : new ≡ at_front (read_input input).stored store
   store_is = ap first_store outcome_is
 
-  pub refusal_read : NoCount a → Refusal (read_input input).answer
-  refusal_read h =
-      let c : CountOrRefusal (read_input input).answer = rw (read_input_lem input) (reading_answers max_lines 0 max_lines input) in
-      no_count_refuses a h c answer_is
+  pub refusal_read : (f : Refusal ℕ) → a ≡ Err f → (read_input input).answer ≡ refusal f
+  refusal_read f q = refusal-told q answer_is
 
-  module _ (n : ℕ) (counted-n : a ≡ Count n) where
+  module _ (n : ℕ) (counted-n : a ≡ Ok n) where
     pub count_is : (read_input input).answer ≡ counted n
     count_is = count-told counted-n answer_is
 

@@ -10,8 +10,8 @@ use borrow.Author.Tests.{lt-ltb, le-ltb}
 use lib.Dec.{ltb}
 use lib.ListN.{length, drop, length-append}
 use lib.Seq.{sets, length-sets}
-use Rattle.model.specs.declared.Answer.{Answer}
-use Rattle.model.specs.declared.Answer.TheVariants.{Count}
+use Rattle.std.specs.Prelude.{Result, Ok}
+use Rattle.model.specs.declared.Refusal.{Refusal}
 use Rattle.model.specs.Answers.{report, counted, refused, Outcome, outcome, at_front}
 use Rattle.model.proofs.StoredLaws.{counted_count, never_counted}
 use Rattle.model.proofs.RoundTrip.{no_text}
@@ -101,6 +101,6 @@ either_within false text out new n h e =
     omega (arith, counted_count (ap (λ (o : Outcome). o.answer) e), ap (λ (o : Outcome). length (first_store o)) e, length-append text (drop (length text) out))
 
 -- the bytes of a text that fitted are in the store
-pub count_within : (text out new : List ℕ) (a : Answer) (n : ℕ) → outcome (report a) (new ∷ []) ≡ fitted text out → a ≡ Count n → n ≤ length new
+pub count_within : (text out new : List ℕ) (a : Result ℕ (Refusal ℕ)) (n : ℕ) → outcome (report a) (new ∷ []) ≡ fitted text out → a ≡ Ok n → n ≤ length new
 unfolding fitted
-count_within text out new a n e c = either_within (ltb (length out) (length text)) text out new n refl (ap (λ (b : Answer). outcome (report b) (new ∷ [])) (sym c) ∙ e)
+count_within text out new a n e c = either_within (ltb (length out) (length text)) text out new n refl (ap (λ (b : Result ℕ (Refusal ℕ)). outcome (report b) (new ∷ [])) (sym c) ∙ e)

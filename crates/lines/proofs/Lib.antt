@@ -2,3 +2,4 @@ pub mod LeftLaws
 pub mod LineTexts
 pub mod ReaderLaws
 pub mod InputLaws
+pub mod SharedLaws

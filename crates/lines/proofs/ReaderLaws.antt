@@ -9,11 +9,12 @@ use lib.Seq.{drop-drop, drop-length}
 use borrow.Author.Tests.{eq-eqb, ne_eqb}
 use Rattle.model.specs.Text.{newline, up_to, past, front_line}
 use Rattle.model.specs.Stored.{Parsed}
-use Rattle.text.specs.declared.Parsed.{Parsed as Got}
+use Rattle.std.specs.Prelude.{None, Some, Result}
+use Rattle.model.specs.declared.Condition.{Condition}
+use Rattle.text.specs.declared.Stored.{Stored}
 use Rattle.text.specs.Lines.{meaning}
 use Rattle.text.proofs.PartLaws.{rest_all, after_first}
 use Rattle.lines.specs.Reading.{front_step, Front, front_of, step_meaning, taken_meaning}
-use Rattle.lines.specs.declared.reader.Step.TheVariants.{End, Line}
 use Rattle.lines.specs.declared.reader.Taken.{Taken}
 
 -- ---- the step
@@ -67,10 +68,10 @@ some_line (b ∷ s) p e =
     record { filled = omega arith; front = cc }
 
 module _ (text : List ℕ) (at : ℕ) (k : Taken) (e : taken_meaning text k ≡ front_of (drop at text)) where
-  pub taken_end : k.step ≡ End → length (drop at text) ≡ 0
+  pub taken_end : k.step ≡ None → length (drop at text) ≡ 0
   taken_end i = none_empty (drop at text) (ap step_meaning (sym i) ∙ ap (λ (x : Front). x.step) e)
 
-  pub taken_line : (p : Got) → k.step ≡ Line p → Stands (drop at text) (meaning p)
+  pub taken_line : (p : Result Stored Condition) → k.step ≡ Some p → Stands (drop at text) (meaning p)
   taken_line p i = some_line (drop at text) (meaning p) (ap step_meaning (sym i) ∙ ap (λ (x : Front). x.step) e)
 
   pub taken_on : drop k.at text ≡ past newline (drop at text)

@@ -11,10 +11,11 @@ ghost use Rattle.printing.specs.Writing.{Wrote, printable};
 ghost use Rattle.lines.specs.Printing.{rows_text, lines_text};
 ghost use Rattle.model.specs.Text.{fitted};
 
-use model::{Answer, ROW_WIDTH};
+use model::{Condition, ROW_WIDTH, Refusal};
 use printing::{put, put_number, put_tagged};
 
 pub mod reader;
+pub mod shared;
 
 // The bytes of a word.
 fn put_word(out: &mut [u8], at: usize, word: &[u8]) -> usize
@@ -22,10 +23,8 @@ fn put_word(out: &mut [u8], at: usize, word: &[u8]) -> usize
     ensures { Wrote out.old out.new at result word.now (length word.now) }
 {
     let mut next = at;
-    let mut i: usize = 0;
-    while i < word.len() {
-        next = put(out, next, word[i]);
-        i += 1;
+    for &b in word {
+        next = put(out, next, b);
     }
     next
 }
@@ -36,10 +35,8 @@ fn put_numbers(out: &mut [u8], at: usize, numbers: &[u16]) -> usize
     ensures { Wrote out.old out.new at result (numbers_text numbers.now) (6 * length numbers.now) }
 {
     let mut next = put_number(out, at, numbers[0]);
-    let mut i: usize = 1;
-    while i < numbers.len() {
+    for i in 1..numbers.len() {
         next = put_tagged(out, next, b',', numbers[i]);
-        i += 1;
     }
     put(out, next, b'\n')
 }
@@ -51,12 +48,10 @@ fn put_rows(out: &mut [u8], at: usize, rows: &[u16]) -> usize
 {
     let n = rows.len() / ROW_WIDTH;
     let mut next = at;
-    let mut k: usize = 0;
-    while k < n {
+    for k in 0..n {
         let from = ROW_WIDTH * k;
         let end = from + ROW_WIDTH;
         next = put_numbers(out, next, &rows[from..end]);
-        k += 1;
     }
     next
 }
@@ -73,39 +68,30 @@ fn put_lines(out: &mut [u8], rows: &[u16], word: &[u8], last: &[u16]) -> usize
 
 // The same as the text of an answer: 17 with nothing touched where there is no room. Printed into an empty part, nothing is touched
 // and the text's length is known.
-pub fn write_lines(rows: &[u16], word: &[u8], last: &[u16], out: &mut [u8]) -> Answer
+pub fn write_lines(rows: &[u16], word: &[u8], last: &[u16], out: &mut [u8]) -> Result<u32, Refusal>
     requires { (0 < length last.now) × (6 * length rows.now + length word.now + 6 * length last.now ≤ printable) }
     ensures { outcome (report result) (out.new ∷ []) ≡ fitted (lines_text rows.now word.now last.now) out.old }
 {
     let size = put_lines(&mut out[..0], rows, word, last);
     if out.len() < size {
-        return Answer::Refused {
-            number: 17,
+        return Err(Refusal {
+            condition: Condition::NoRoom,
             line: 0,
-        };
+        });
     }
     let written = put_lines(out, rows, word, last);
-    Answer::Count(written as u32)
+    Ok(written as u32)
 }
 
 // Writes the line of a refusal; nothing for another answer.
-pub fn write_refusal(answer: Answer, out: &mut [u8]) -> Answer
+pub fn write_refusal(answer: Result<u32, Refusal>, out: &mut [u8]) -> Result<u32, Refusal>
     ensures { outcome (report result) (out.new ∷ []) ≡ fitted (or_refusal (report answer) []) out.old }
 {
     match answer {
-        Answer::Refused { number, line } => {
-            let rows = [0u16; 1];
-            let last = [number as u16, line];
-            write_lines(&rows[..0], b"refused,", &last, out)
+        Ok(_) => Ok(0),
+        Err(refusal) => {
+            let last = [u8::from(refusal.condition) as u16, refusal.line];
+            write_lines(&[], b"refused,", &last, out)
         }
-        Answer::Count(_) => Answer::Count(0),
-        Answer::Halted {
-            counter: _,
-            steps: _,
-        } => Answer::Count(0),
-        Answer::Spent {
-            counter: _,
-            steps: _,
-        } => Answer::Count(0),
     }
 }

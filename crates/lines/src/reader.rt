@@ -5,33 +5,28 @@ ghost use Rattle.model.specs.Answers.{report, outcome};
 ghost use Rattle.model.specs.Text.{newline, past, read_outcome};
 ghost use Rattle.lines.specs.Reading.{front_step, front_of, step_meaning, taken_meaning, left};
 
-use model::{Answer, LINE_WIDTH, MAX_LINES};
+use model::{Condition, LINE_WIDTH, MAX_LINES, Refusal};
 use text::cut::find;
-use text::line::refusal;
-use text::{Parsed, front_at, keep_at};
+use text::{Stored, front_at, keep_at};
 
-// What stands at a position: the end of the text, or a line, read or refused.
-#[derive(Clone, Copy)]
-enum Step {
-    End,
-    Line(Parsed),
-}
+// A line as it stands there: its numbers, or the condition that holds.
+type Found = Result<Stored, Condition>;
 
-// What stands at a position, and the position after it.
+// What stands at a position, nothing at the text's end, and the position after it.
 #[derive(Clone, Copy)]
 struct Taken {
-    step: Step,
+    step: Option<Found>,
     at: usize,
 }
 
 // What stands at a position of a text.
-fn step_at(text: &[u8], at: usize) -> Step
+fn step_at(text: &[u8], at: usize) -> Option<Found>
     ensures { step_meaning result ≡ front_step (drop at text.now) }
 {
     if at < text.len() {
-        Step::Line(front_at(text, at))
+        Some(front_at(text, at))
     } else {
-        Step::End
+        None
     }
 }
 
@@ -63,7 +58,7 @@ impl<'a> Reader<'a> {
     }
 
     // What stands at the position reached.
-    fn line(self) -> Step
+    fn line(self) -> Option<Found>
         ensures { step_meaning result ≡ front_step (left self.entry) }
     {
         step_at(self.text, self.at)
@@ -85,13 +80,14 @@ fn take_at(text: &[u8], at: usize) -> Taken
     ensures { taken_meaning text.now result ≡ front_of (drop at text.now) }
 {
     let r = Reader::new(text, at);
-    let step = r.line();
-    let next = r.moved();
-    Taken { step, at: next.at }
+    Taken {
+        step: r.line(),
+        at: r.moved().at,
+    }
 }
 
 // Reads the lines of a text into a store, from position to position.
-pub fn read_lines(text: &[u8], store: &mut [u16]) -> Answer
+pub fn read_lines(text: &[u8], store: &mut [u16]) -> Result<u32, Refusal>
     ensures { outcome (report result) (store.new ∷ []) ≡ read_outcome text.now store.old }
 {
     let room = store.len() / LINE_WIDTH;
@@ -99,27 +95,26 @@ pub fn read_lines(text: &[u8], store: &mut [u16]) -> Answer
     let mut n: usize = 0;
     loop {
         let taken = take_at(text, at);
-        let step = taken.step;
-        let Step::Line(got) = step else {
-            return Answer::Count(n as u32);
+        let Some(got) = taken.step else {
+            return Ok(n as u32);
         };
         if MAX_LINES <= n {
-            return Answer::Refused {
-                number: 7,
+            return Err(Refusal {
+                condition: Condition::TooManyLines,
                 line: n as u16,
-            };
+            });
         }
         if room <= n {
-            return Answer::Refused {
-                number: 8,
+            return Err(Refusal {
+                condition: Condition::StoreFull,
                 line: n as u16,
-            };
+            });
         }
-        let Parsed::Line(l) = got else {
-            return Answer::Refused {
-                number: refusal(got),
+        let Ok(l) = got else {
+            return Err(Refusal {
+                condition: got.unwrap_err(),
                 line: n as u16,
-            };
+            });
         };
         keep_at(store, n, l);
         at = taken.at;

@@ -1,7 +1,5 @@
 pub mod NamedPlaces
 pub mod RowsRead
-pub mod PlaceTables
-pub mod Product
 pub mod Loops
 pub mod Traces
 pub mod Outcomes

@@ -2,21 +2,22 @@
 -- Assumes nothing.
 use Rattle.std.proofs.Common.{◌≡◌, ℕ, ◌*◌, ◌<◌, ◌≤◌, Bool, true, false, cond, eqb, ltb, List, [], ◌∷◌, length, sym, refl, ◌∙◌, ltb-false, le-ltb, lt-ltb, eq-eqb, ne_eqb, eqb-true}
 use Rattle.model.specs.Limits.{state_size, row_width}
-use Rattle.model.specs.declared.Answer.{Answer}
+use Rattle.std.specs.Prelude.{Result, Err}
+use Rattle.model.specs.declared.Refusal.{Refusal}
 use Rattle.model.specs.Answers.{Report, report, counted, refused, Outcome, outcome, and_then, unless_refused}
 use Rattle.model.specs.Stored.{lines, line_count, program_check}
 use Rattle.model.specs.Run.{run, run_leaves, run_outcome}
 use Rattle.model.proofs.OutcomeLaws.{never_done, run_outcome_lem}
-use Rattle.model.proofs.CheckAnswers.{CountOrRefusal, counts, refuses, either, then_answers, program_answers, NoCount, no_count_refuses, refusal_stands, handed_on}
+use Rattle.model.proofs.CheckAnswers.{CountOrRefusal, counts, refuses, either, then_answers, program_answers, refusal, refusal-told, refusal_stands, refusal_leaves}
 use Rattle.machine.specs.Loop.{machine, admission, run_from}
 use Rattle.machine.proofs.Traces.{run_leaves_lem}
 
 -- ---- what is asked before a run
 
 module _ (p : List ℕ) (budget size room : ℕ) where
-  pub no_program : (a : Answer) → NoCount a → report a ≡ program_check p → report a ≡ admission p budget size room
+  pub no_program : (a : Result ℕ (Refusal ℕ)) (f : Refusal ℕ) → a ≡ Err f → report a ≡ program_check p → refusal f ≡ admission p budget size room
   unfolding admission
-  no_program a h e = e ∙ refusal_stands (no_count_refuses a h (program_answers p) e) _
+  no_program a f q e = refusal_stands f (refusal-told q e) _
 
   module _ (n : ℕ) (e : program_check p ≡ counted n) where
     pub no_state : (size ≡ state_size → ⊥) → refused 18 0 ≡ admission p budget size room
@@ -59,7 +60,7 @@ module _ (p : List ℕ) (budget size room : ℕ) where
 
       go : CountOrRefusal (program_check p) → admission p budget size room ≡ counted n → Admitted n
       go (counts m q) e = by_state (eqb size state_size) refl (sym (passes (program_check p) _ m q) ∙ e)
-      go (refuses k l q) e = absurd (never_done (sym q ∙ refusal_stands (record { number = k; line = l; is = q }) _ ∙ e))
+      go (refuses k l q) e = absurd (never_done (rw q at e))
 
 -- ---- the outcome of a run
 
@@ -79,8 +80,8 @@ module _ (p : List ℕ) (start budget : ℕ) (s t : List ℕ) where
       go (counts n e) = rw e (tests (eqb (length s) state_size) (ltb (length t) (row_width * budget)) n _ _)
       go (refuses k l e) = rw e
 
-  pub turned_down : (a : Answer) → NoCount a → report a ≡ admission p budget (length s) (length t) → outcome (report a) (s ∷ t ∷ []) ≡ run_outcome p start budget s t
-  turned_down a h e = handed_on a h (admission_answers p budget (length s) (length t)) e (s ∷ t ∷ []) _ ∙ sym by_admission
+  pub turned_down : (a : Result ℕ (Refusal ℕ)) (f : Refusal ℕ) → a ≡ Err f → report a ≡ admission p budget (length s) (length t) → outcome (refusal f) (s ∷ t ∷ []) ≡ run_outcome p start budget s t
+  turned_down a f q e = refusal_leaves f (refusal-told q e) (s ∷ t ∷ []) _ ∙ sym by_admission
 
   pub runs : (n : ℕ) → admission p budget (length s) (length t) ≡ counted n → run_from p (line_count p) budget (machine (record { counter = start; steps = 0; bus = 0 }) s t) ≡ run_outcome p start budget s t
   runs n e =

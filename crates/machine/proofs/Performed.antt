@@ -1,5 +1,4 @@
--- A step, over plain values: what its parts give, and its row in the store. Two functions are made of them, one of which tells the written place
--- too. Assumes nothing.
+-- A step, over plain values: what its parts give, and its row in the store. Assumes nothing.
 use Rattle.std.proofs.Common.{◌≡◌, ℕ, suc, ◌+◌, Bool, cond, List, get_or, set}
 use Rattle.model.specs.declared.Mark.{Mark}
 use Rattle.model.specs.declared.Opcode.{Opcode}

@@ -16,7 +16,6 @@ use Rattle.machine.specs.declared.Effect.{Effect}
 use Rattle.machine.specs.declared.Fetched.{Fetched}
 use Rattle.machine.specs.declared.OnBus.{OnBus}
 use Rattle.machine.specs.declared.steps.Run.{Run}
-use Rattle.machine.specs.declared.steps.Stepped.{Stepped}
 
 -- what an operand reads, and its place
 abbrev pub fetch_of : Operand → State → Fetched
@@ -106,10 +105,6 @@ pub record Machine : Type 0 where
 
 abbrev pub machine : Run → State → List ℕ → Machine
 machine r s t = record { run = r; state = s; trace = t }
-
--- the run of what a step that tells its place hands back
-abbrev pub run_of : Stepped → Run
-run_of x = record { counter = x.counter; steps = x.steps; bus = x.bus }
 
 -- one step of a line
 unfoldable pub step_by : Line → Machine → Machine

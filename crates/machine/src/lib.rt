@@ -6,14 +6,14 @@
 
 ghost use Rattle.std.specs.Prelude.{◌≡◌, suc, ◌+◌, ◌-◌, ◌*◌, ◌/◌, ◌%◌, ◌^◌, ◌<◌, ◌≤◌, [], ◌∷◌, length, if◌then◌else◌, slice_index, slice_set};
 ghost use Rattle.model.specs.Limits.{max_lines, row_width, state_size};
-ghost use Rattle.model.specs.Answers.{report, outcome};
+ghost use Rattle.model.specs.Answers.{report, ended, run_report, outcome};
 ghost use Rattle.model.specs.Stored.{registers, opcode_of, operand_of, target_of, line_of, line_count};
 ghost use Rattle.model.specs.Step.{weight, distance, shift_by, negated, alu, taken, target_line, meaning, next, after, bus_after, row};
 ghost use Rattle.model.specs.Places.{kind, place};
 ghost use Rattle.model.specs.Run.{run_outcome};
 ghost use Rattle.machine.specs.Loop.{fetch_of, arguments_of, address_at, is_cell, CellBy, on_bus_at, addresses, mask, Masks, Weights, row_of, effect_of, jumps, put_row, machine, admission, run_from};
 
-use model::{Answer, LINE_WIDTH, Mark, Opcode, ROW_WIDTH, STATE_SIZE};
+use model::{Condition, Ending, LINE_WIDTH, Mark, Opcode, ROW_WIDTH, Refusal, STATE_SIZE};
 use steps::Run;
 
 pub mod steps;
@@ -26,12 +26,14 @@ fn weight(n: u16) -> u16
 }
 
 // The Hamming distance.
+#[tactic(auto, unfolding(model::specs::Step::distance))]
 pub fn distance(x: u16, y: u16) -> u16
     ensures { result ≡ distance x y }
 {
     u16::count_ones(x ^ y) as u16
 }
 
+#[tactic(auto, unfolding(model::specs::Step::negated))]
 fn negated(mark: Mark, x: u8) -> u8
     ensures { result ≡ negated mark x }
 {
@@ -49,13 +51,9 @@ fn shifted(left: bool, x: u8, y: u8) -> u8
     if left { x << n } else { x >> n }
 }
 
-fn times(x: u8, y: u8) -> u8
-    ensures { result ≡ x * y % 256 }
-{
-    ((x as u16) * (y as u16) % 256) as u8
-}
-
 // What a line writes, by the number of its opcode: not, mov, and, orr, xor, lsl, lsr, add and mul are 2 to 10. Public addition wraps at 256.
+// By the number, and so `is_taken`: a run whose steps make an `Opcode` of it first takes an eighth longer.
+#[tactic(auto, unfolding(model::specs::Step::alu))]
 fn alu(mark: Mark, o: u16, x: u8, y: u8) -> u8
     ensures { result ≡ alu mark (opcode_of o) x y }
 {
@@ -67,13 +65,14 @@ fn alu(mark: Mark, o: u16, x: u8, y: u8) -> u8
         6 => x ^ y,
         7 => shifted(true, x, y),
         8 => shifted(false, x, y),
-        9 => std::num::wrapping_add_u8(x, y),
-        10 => times(x, y),
+        9 => x.wrapping_add(y),
+        10 => x.wrapping_mul(y),
         _ => 0,
     }
 }
 
 // Whether a line goes to its target: jmp, beq and bne are 1, 11 and 12.
+#[tactic(auto, unfolding(model::specs::Step::taken))]
 fn is_taken(o: u16, x: u8, y: u8) -> bool
     ensures { result ≡ taken (opcode_of o) x y }
 {
@@ -89,28 +88,14 @@ fn is_taken(o: u16, x: u8, y: u8) -> bool
 fn may_jump(opcode: Opcode) -> bool
     ensures { result ≡ jumps opcode }
 {
-    match opcode {
-        Opcode::Nop => false,
-        Opcode::Jmp => true,
-        Opcode::Not => false,
-        Opcode::Mov => false,
-        Opcode::And => false,
-        Opcode::Orr => false,
-        Opcode::Xor => false,
-        Opcode::Lsl => false,
-        Opcode::Lsr => false,
-        Opcode::Add => false,
-        Opcode::Mul => false,
-        Opcode::Beq => true,
-        Opcode::Bne => true,
-    }
+    matches!(opcode, Opcode::Jmp | Opcode::Beq | Opcode::Bne)
 }
 
 // The line that a target's number names; 0 where it names none.
 fn target_line(code: u16) -> u16
     ensures { result ≡ target_line (target_of code) }
 {
-    if code == 0 { 0 } else { code - 1 }
+    code.saturating_sub(1)
 }
 
 // The counter after a line.
@@ -125,10 +110,10 @@ fn advanced(jumps: bool, target: u16, counter: u16) -> u16
 pub fn read(state: &[u8], at: usize) -> u8
     ensures { result ≡ slice_index state.now at }
 {
-    if at < state.len() { state[at] } else { 0 }
+    state.get(at).copied().unwrap_or(0)
 }
 
-// A byte at a place; past the end nothing is written.
+// A byte at a place; past the end nothing is written. By index: after a write through `get_mut` a proof knows the state's length alone.
 pub fn write(state: &mut [u8], at: usize, byte: u8)
     ensures { state.new ≡ slice_set state.old at byte }
 {
@@ -150,22 +135,17 @@ fn place_of(code: u16, state: &[u8]) -> usize
     requires { registers ≤ code }
     ensures { result ≡ place (operand_of code) state.now }
 {
-    if code < coding::CELLS {
-        return (code - coding::REGISTERS) as usize;
+    match code {
+        ..coding::CELLS => (code - coding::REGISTERS) as usize,
+        ..coding::PUBLICS => 32 + ((code - coding::CELLS) as usize),
+        ..coding::SENSITIVES => 32 + (indirect(state, code - coding::PUBLICS, 128) as usize),
+        ..coding::TABLES => 160 + (indirect(state, code - coding::SENSITIVES, 128) as usize),
+        _ => 288 + (indirect(state, code - coding::TABLES, 256) as usize),
     }
-    if code < coding::PUBLICS {
-        return 32 + ((code - coding::CELLS) as usize);
-    }
-    if code < coding::SENSITIVES {
-        return 32 + (indirect(state, code - coding::PUBLICS, 128) as usize);
-    }
-    if code < coding::TABLES {
-        return 160 + (indirect(state, code - coding::SENSITIVES, 128) as usize);
-    }
-    288 + (indirect(state, code - coding::TABLES, 256) as usize)
 }
 
 // The place that an operand's number names, past the state where it names none.
+#[tactic(auto, using(crate::proofs::NamedPlaces::no_place))]
 pub fn place_at(code: u16, state: &[u8]) -> usize
     ensures { result ≡ place (operand_of code) state.now }
 {
@@ -180,11 +160,7 @@ fn literal(code: u16) -> u8
     requires { code < registers }
     ensures { result ≡ code - 1 }
 {
-    if code == 0 {
-        0
-    } else {
-        (code - coding::LITERALS) as u8
-    }
+    code.saturating_sub(coding::LITERALS) as u8
 }
 
 // What an operand reads, and its place, past the state where there is none.
@@ -219,6 +195,7 @@ struct Arguments {
 }
 
 // What a byte of a place means as an argument of a line of that mark: in a marked line a public place means its lowest bit.
+#[tactic(auto, unfolding(model::specs::Step::meaning))]
 pub fn argument(mark: Mark, at: usize, byte: u8) -> u8
     ensures { result ≡ meaning mark (kind at) byte }
 {
@@ -267,13 +244,7 @@ fn mask_at(i: usize) -> u8
 pub fn all_masks() -> [u8; PLACES]
     ensures { Masks result }
 {
-    let mut masks = [0u8; PLACES];
-    let mut i = 0;
-    while i < PLACES {
-        masks[i] = mask_at(i);
-        i += 1;
-    }
-    masks
+    std::array::from_fn(mask_at)
 }
 
 // The arguments of a line of that mark, by the masks.
@@ -281,16 +252,14 @@ fn mask_arguments(mark: Mark, x: Fetched, y: Fetched, masks: &[u8; PLACES]) -> A
     requires { Masks masks.now × (x.at ≤ state_size) × (y.at ≤ state_size) }
     ensures { result ≡ arguments_of mark x y }
 {
-    let i = x.at;
-    let j = y.at;
     match mark {
         Mark::Unmarked => Arguments {
             first: x.value,
             second: y.value,
         },
         Mark::Marked => Arguments {
-            first: x.value & masks[i],
-            second: y.value & masks[j],
+            first: x.value & masks[x.at],
+            second: y.value & masks[y.at],
         },
     }
 }
@@ -316,10 +285,7 @@ fn replace(code: u16, res: u8, state: &mut [u8]) -> Replaced
 fn is_cell(at: usize) -> bool
     ensures { result ≡ is_cell at }
 {
-    if at < 32 {
-        return false;
-    }
-    at < STATE_SIZE
+    32 <= at && at < STATE_SIZE
 }
 
 // The weight of the address of a place: of a cell its number's, of any other 0.
@@ -327,9 +293,10 @@ fn address_weight(at: usize) -> u16
     ensures { result ≡ weight (address_at at) }
 {
     if is_cell(at) {
-        return weight((at - 32) as u16);
+        weight((at - 32) as u16)
+    } else {
+        0
     }
-    0
 }
 
 // The weights of the addresses of all places. A run and a walk make them once: not every processor has an instruction that counts ones, and a
@@ -337,13 +304,7 @@ fn address_weight(at: usize) -> u16
 pub fn all_weights() -> [u16; PLACES]
     ensures { Weights result }
 {
-    let mut weights = [0u16; PLACES];
-    let mut i = 0;
-    while i < PLACES {
-        weights[i] = address_weight(i);
-        i += 1;
-    }
-    weights
+    std::array::from_fn(address_weight)
 }
 
 // The weight of a byte or of an address, by the table: cell n is place 32 + n.
@@ -476,15 +437,18 @@ pub fn next_of(m: u16, o: u16, a: u16, b: u16, t: u16, counter: u16, state: &[u8
     advanced(jumps, target_line(t), counter)
 }
 
-// What a step answers: the next counter, the bus, and its trace row.
+// What a step answers: the next counter, the bus, the written place, past the state where there is none, and its trace row.
 #[derive(Clone, Copy)]
 struct Done {
     next: u16,
     bus: u16,
+    place: usize,
     row: [u16; ROW_WIDTH],
 }
 
-// The line of six numbers on a state. Arguments and addresses are worked out before the write.
+// The line of six numbers on a state. Arguments and addresses are worked out before the write. Joined to each loop that steps: a run whose
+// steps are calls takes half as long again.
+#[inline(always)]
 fn perform(
     m: u16,
     o: u16,
@@ -501,54 +465,6 @@ fn perform(
     requires { (counter < 65535) × Masks masks.now × Weights weights.now × (bus < addresses) }
     ensures next_and_row { (result.next ≡ next (line_of m o d a b t) counter state.old) × (result.row ≡ row (line_of m o d a b t) counter state.old bus) }
     ensures bus_after { (result.bus ≡ bus_after (line_of m o d a b t) state.old bus) × (result.bus < addresses) }
-    ensures state_after { state.new ≡ after (line_of m o d a b t) state.old }
-{
-    let mark = coding::mark_of(m);
-    let x = fetch(a, state);
-    let first = put_on_bus(a, x.at, bus, weights);
-    let y = fetch(b, state);
-    let second = put_on_bus(b, y.at, first.bus, weights);
-    let args = mask_arguments(mark, x, y, masks);
-    let result = alu(mark, o, args.first, args.second);
-    let jumps = is_taken(o, args.first, args.second);
-    let next = advanced(jumps, target_line(t), counter);
-    let r = replace(d, result, state);
-    let destination = put_on_bus(d, r.at, second.bus, weights);
-    let row = row_of(counter, r.old, result, first, second, destination, weights);
-    Done {
-        next,
-        bus: destination.bus,
-        row,
-    }
-}
-
-// What a step answers that tells the written place too, past the state where there is none.
-#[derive(Clone, Copy)]
-struct DoneSeen {
-    next: u16,
-    bus: u16,
-    place: usize,
-    row: [u16; ROW_WIDTH],
-}
-
-// The same as `perform`, and the written place. It is not the same function: one of this size is joined to a loop only where it is called a
-// single time, and a run whose steps are calls takes half as long again.
-fn perform_seen(
-    m: u16,
-    o: u16,
-    d: u16,
-    a: u16,
-    b: u16,
-    t: u16,
-    counter: u16,
-    bus: u16,
-    masks: &[u8; PLACES],
-    weights: &[u16; PLACES],
-    state: &mut [u8],
-) -> DoneSeen
-    requires { (counter < 65535) × Masks masks.now × Weights weights.now × (bus < addresses) }
-    ensures next_and_row { (result.next ≡ next (line_of m o d a b t) counter state.old) × (result.row ≡ row (line_of m o d a b t) counter state.old bus) }
-    ensures bus_after { (result.bus ≡ bus_after (line_of m o d a b t) state.old bus) × (result.bus < addresses) }
     ensures state_after { (state.new ≡ after (line_of m o d a b t) state.old) × (result.place ≡ place (operand_of d) state.old) }
 {
     let mark = coding::mark_of(m);
@@ -562,33 +478,30 @@ fn perform_seen(
     let next = advanced(jumps, target_line(t), counter);
     let written = replace(d, result, state);
     let destination = put_on_bus(d, written.at, second.bus, weights);
-    let row = row_of(
-        counter,
-        written.old,
-        result,
-        first,
-        second,
-        destination,
-        weights,
-    );
-    DoneSeen {
+    Done {
         next,
         bus: destination.bus,
         place: written.at,
-        row,
+        row: row_of(
+            counter,
+            written.old,
+            result,
+            first,
+            second,
+            destination,
+            weights,
+        ),
     }
 }
 
-// The numbers of row n.
+// The numbers of row n, one by one: a run whose rows are written by `copy_from_slice` takes an eighth longer.
 fn write_row(trace: &mut [u16], n: usize, row: [u16; ROW_WIDTH])
     requires { row_width * n + row_width ≤ length trace.old }
     ensures { trace.new ≡ put_row trace.old n row }
 {
     let k = ROW_WIDTH * n;
-    let mut i = 0;
-    while i < ROW_WIDTH {
+    for i in 0..ROW_WIDTH {
         trace[k + i] = row[i];
-        i += 1;
     }
 }
 
@@ -599,9 +512,9 @@ fn run_lines(
     budget: u16,
     state: &mut [u8],
     trace: &mut [u16],
-) -> Answer
+) -> Ending
     requires { (line_count program.now ≤ max_lines) × (row_width * budget ≤ length trace.old) }
-    ensures { outcome (report result) (state.new ∷ trace.new ∷ []) ≡ run_from program.now (line_count program.now) budget (machine (record { counter = start; steps = 0; bus = 0 }) state.old trace.old) }
+    ensures { outcome (ended result) (state.new ∷ trace.new ∷ []) ≡ run_from program.now (line_count program.now) budget (machine (record { counter = start; steps = 0; bus = 0 }) state.old trace.old) }
 {
     let count = program.len() / LINE_WIDTH;
     let masks = all_masks();
@@ -613,49 +526,49 @@ fn run_lines(
     };
     while (run.counter as usize) < count {
         if budget <= run.steps {
-            return Answer::Spent {
+            return Ending::Spent {
                 counter: run.counter,
                 steps: run.steps,
             };
         }
-        run = run.step(program, &masks, &weights, state, trace);
+        run = run.step(program, &masks, &weights, state, trace).run;
     }
-    Answer::Halted {
+    Ending::Halted {
         counter: run.counter,
         steps: run.steps,
     }
 }
 
 // A run's refusals, from the sizes of the state and the trace store; else the count of lines.
-pub fn admit(program: &[u16], budget: u16, size: usize, room: usize) -> Answer
+pub fn admit(program: &[u16], budget: u16, size: usize, room: usize) -> Result<u32, Refusal>
     ensures { report result ≡ admission program.now budget size room }
 {
-    let checked = coding::check_program(program);
-    let Answer::Count(_) = checked else {
-        return checked;
-    };
+    let count = coding::check_program(program)?;
     if size != STATE_SIZE {
-        return Answer::Refused {
-            number: 18,
+        return Err(Refusal {
+            condition: Condition::WrongLength,
             line: 0,
-        };
+        });
     }
     if room < ROW_WIDTH * (budget as usize) {
-        return Answer::Refused {
-            number: 20,
+        return Err(Refusal {
+            condition: Condition::TraceTooShort,
             line: 0,
-        };
+        });
     }
-    checked
+    Ok(count)
 }
 
 // The run of a stored program from a start counter, with a budget of steps. A refusal leaves state and trace as they are.
-pub fn run(program: &[u16], start: u16, budget: u16, state: &mut [u8], trace: &mut [u16]) -> Answer
-    ensures { outcome (report result) (state.new ∷ trace.new ∷ []) ≡ run_outcome program.now start budget state.old trace.old }
+pub fn run(
+    program: &[u16],
+    start: u16,
+    budget: u16,
+    state: &mut [u8],
+    trace: &mut [u16],
+) -> Result<Ending, Refusal>
+    ensures { outcome (run_report result) (state.new ∷ trace.new ∷ []) ≡ run_outcome program.now start budget state.old trace.old }
 {
-    let checked = admit(program, budget, state.len(), trace.len());
-    let Answer::Count(_) = checked else {
-        return checked;
-    };
-    run_lines(program, start, budget, state, trace)
+    admit(program, budget, state.len(), trace.len())?;
+    Ok(run_lines(program, start, budget, state, trace))
 }

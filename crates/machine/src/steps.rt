@@ -1,9 +1,9 @@
-// A run's counter, step tally and bus, and one step, which takes all three and hands all back.
+// A run's counter, step tally and bus, and one step, which takes all three and hands all back, and the place that it wrote.
 ghost use Rattle.std.specs.Prelude.{◌≡◌, ◌+◌, ◌*◌, ◌<◌, ◌≤◌, length};
 ghost use Rattle.model.specs.Limits.{row_width};
 ghost use Rattle.model.specs.Places.{place};
 ghost use Rattle.model.specs.Stored.{line_at};
-ghost use Rattle.machine.specs.Loop.{addresses, Masks, Weights, machine, run_of, step_of};
+ghost use Rattle.machine.specs.Loop.{addresses, Masks, Weights, machine, step_of};
 
 use super::PLACES;
 
@@ -17,44 +17,14 @@ pub struct Run {
 // A run after a step, and the place that the step wrote, past the state where it wrote none.
 #[derive(Clone, Copy)]
 pub struct Stepped {
-    pub counter: u16,
-    pub steps: u16,
-    pub bus: u16,
+    pub run: Run,
     pub place: usize,
 }
 
 impl Run {
     // One step of a stored program, with room in the trace store for its row.
+    #[inline(always)]
     pub fn step(
-        self,
-        program: &[u16],
-        masks: &[u8; PLACES],
-        weights: &[u16; PLACES],
-        state: &mut [u8],
-        trace: &mut [u16],
-    ) -> Run
-        requires { Masks masks.now × Weights weights.now × (self.counter < 65535) × (self.steps < 65535) × (self.bus < addresses) × (row_width * self.steps + row_width ≤ length trace.old) }
-        ensures stepped { machine result state.new trace.new ≡ step_of program.now (machine self state.old trace.old) }
-        ensures bus_within { result.bus < addresses }
-    {
-        let counter = self.counter;
-        let steps = self.steps;
-        let bus = self.bus;
-        let n = coding::numbers_at(program, counter as usize);
-        let done = super::perform(
-            n[0], n[1], n[2], n[3], n[4], n[5], counter, bus, masks, weights, state,
-        );
-        let row = done.row;
-        super::write_row(trace, steps as usize, row);
-        Run {
-            counter: done.next,
-            steps: steps + 1,
-            bus: done.bus,
-        }
-    }
-
-    // The same step, and the place that it writes.
-    pub fn step_seen(
         self,
         program: &[u16],
         masks: &[u8; PLACES],
@@ -63,23 +33,31 @@ impl Run {
         trace: &mut [u16],
     ) -> Stepped
         requires { Masks masks.now × Weights weights.now × (self.counter < 65535) × (self.steps < 65535) × (self.bus < addresses) × (row_width * self.steps + row_width ≤ length trace.old) }
-        ensures stepped { machine (run_of result) state.new trace.new ≡ step_of program.now (machine self state.old trace.old) }
-        ensures bus_and_place { (result.bus < addresses) × (result.place ≡ place (line_at program.now self.counter).destination state.old) }
+        ensures stepped { machine result.run state.new trace.new ≡ step_of program.now (machine self state.old trace.old) }
+        ensures bus_and_place { (result.run.bus < addresses) × (result.place ≡ place (line_at program.now self.counter).destination state.old) }
     {
-        let counter = self.counter;
-        let tally = self.steps;
-        let bus = self.bus;
-        let n = coding::numbers_at(program, counter as usize);
-        let seen = super::perform_seen(
-            n[0], n[1], n[2], n[3], n[4], n[5], counter, bus, masks, weights, state,
+        let n = coding::numbers_at(program, self.counter as usize);
+        let done = super::perform(
+            n[0],
+            n[1],
+            n[2],
+            n[3],
+            n[4],
+            n[5],
+            self.counter,
+            self.bus,
+            masks,
+            weights,
+            state,
         );
-        let row = seen.row;
-        super::write_row(trace, tally as usize, row);
+        super::write_row(trace, self.steps as usize, done.row);
         Stepped {
-            counter: seen.next,
-            steps: tally + 1,
-            bus: seen.bus,
-            place: seen.place,
+            run: Run {
+                counter: done.next,
+                steps: self.steps + 1,
+                bus: done.bus,
+            },
+            place: done.place,
         }
     }
 }

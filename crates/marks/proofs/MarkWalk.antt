@@ -7,15 +7,15 @@ use Prim.Native.Nat.{ℕ, ◌+◌, ◌≤◌, ◌<◌}
 use borrow.Author.Tests.{ne_eqb, lt-ltb, le-ltb}
 use lib.Dec.{eqb}
 use lib.ListN.{drop}
-use Rattle.model.specs.declared.Answer.{Answer}
-use Rattle.model.specs.declared.Answer.TheVariants.{Count}
+use Rattle.std.specs.Prelude.{Result, Ok, Err}
+use Rattle.model.specs.declared.Refusal.{Refusal}
 use Rattle.model.specs.declared.Line.{Line}
 use Rattle.model.specs.Limits.{max_accepted}
 use Rattle.model.specs.Answers.{Report, report, counted, refused}
 use Rattle.model.specs.Stored.{line_count, line_at, lines, program_check}
 use Rattle.model.specs.Marks.{mark_fault, first_bad, marks_of, mark_check}
 use Rattle.model.proofs.StoredLaws.{drop_line, drop_end, length-lines}
-use Rattle.model.proofs.CheckAnswers.{program_answers, NoCount, count-told, no_count_refuses}
+use Rattle.model.proofs.CheckAnswers.{refusal, count-told, refusal-told, refusal_stands}
 
 -- ---- a line: a condition that holds gives its number, one that does not leaves the rest to the next
 
@@ -62,10 +62,10 @@ begins p h = rw (length-lines p, le-ltb max_accepted (line_count p) h)
 
 -- ---- any numbers: what the check of a stored program refuses is refused so
 
-pub check_stops : (p : List ℕ) (a : Answer) → NoCount a → report a ≡ program_check p → report a ≡ mark_check p
+pub check_stops : (p : List ℕ) (a : Result ℕ (Refusal ℕ)) (f : Refusal ℕ) → a ≡ Err f → report a ≡ program_check p → refusal f ≡ mark_check p
 unfolding mark_check
-check_stops p a k e = e ∙ rw (no_count_refuses a k (program_answers p) e).is
+check_stops p a f q e = refusal_stands f (refusal-told q e) (marks_of (lines p))
 
-pub check_goes_on : (p : List ℕ) (a r : Answer) (n : ℕ) → report a ≡ program_check p → a ≡ Count n → report r ≡ marks_of (lines p) → report r ≡ mark_check p
+pub check_goes_on : (p : List ℕ) (a r : Result ℕ (Refusal ℕ)) (n : ℕ) → report a ≡ program_check p → a ≡ Ok n → report r ≡ marks_of (lines p) → report r ≡ mark_check p
 unfolding mark_check
 check_goes_on p a r n e q w = rw (count-told q e) w

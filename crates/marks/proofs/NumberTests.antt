@@ -114,3 +114,6 @@ module _ (n : ℕ) where
       rw (register n (omega arith) l, le-ltb r 4 (omega arith))
       (below r 16 (λ h. rw (lt-ltb n (registers + 16) (omega arith), lt-ltb r 16 h))
       (λ h. rw (le-ltb n (registers + 16) (omega arith), le-ltb r 16 h, lt-ltb r 32 (omega arith))))
+
+  pub below_cells : n < cells → (leb (registers + 4) n && ltb n (registers + 16)) ≡ is_public (kind_of (operand_of n))
+  below_cells h = below n (registers + 4) (λ l. rw (lt-leb (registers + 4) n l) (low_public l)) (λ g. rw (le-leb (registers + 4) n g) (register_public g h))

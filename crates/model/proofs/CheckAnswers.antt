@@ -1,18 +1,20 @@
 -- What reads, checks or expands answers a count or a refusal, and never as a run does: of the paper's answer, and of the code's. A program
 -- that the mark check does not refuse is accepted. Assumes nothing.
-use Prim.Native.Nat.{ℕ, zero, suc, ◌+◌}
+use Prim.Native.Nat.{ℕ, zero, suc, ◌+◌, ◌<◌}
 use mathlib.Core.Path.{◌≡◌, refl, sym, ap, ◌∙◌}
 use mathlib.Core.Bool.{Bool, true, false, cond}
 use mathlib.Core.List.{List, [], ◌∷◌}
 use native.Mathlib.Omega.{arith}
 use lib.Dec.{eqb, leb, ltb}
 use lib.ListN.{length}
-use Rattle.model.specs.declared.Answer.{Answer}
-use Rattle.model.specs.declared.Answer.TheVariants.{Count, Halted, Spent, Refused}
+use Rattle.std.specs.Prelude.{Option, None, Some, is_some, Result, Ok, Err}
+use Rattle.model.specs.declared.Condition.{Condition}
+use Rattle.model.specs.declared.Condition.TheVariants.{NoNewline, NotFiveCommas, UnknownMark, UnknownOpcode, WrongFields, WrongOperand, TooManyLines, StoreFull, TooLong, ReservedPlace, WrongDestination, SensitiveArgument, NoMacro, NoBit, TargetAbove, NoRoom, WrongLength, WrongImage, TraceTooShort, SeveralValues, TooManyValues, UnknownLayout, WrongLabel, NoCounterpart, WrongWatch, WrongMap, WrongChoice, TooFewWords}
+use Rattle.model.specs.declared.Refusal.{Refusal}
 use Rattle.model.specs.declared.Layout.{Layout}
 use Rattle.model.specs.declared.Line.{Line}
 use Rattle.model.specs.Limits.{max_accepted}
-use Rattle.model.specs.Answers.{Report, done, refused, counted, report, Outcome, outcome, and_then, unless_refused}
+use Rattle.model.specs.Answers.{Report, done, refused, counted, number_of, number_or_0, report, Outcome, outcome, and_then, unless_refused}
 use Rattle.model.specs.Stored.{Parsed, numbers, wrong, line_count, lines, program_check}
 use Rattle.model.specs.Text.{newline, past, front_line, Reading, then_reads, reading}
 use Rattle.model.specs.Marks.{mark_fault, first_bad, marks_of, mark_check, Accepted}
@@ -106,39 +108,67 @@ accepted_source p vs e = go (mark_answers p)
 
 -- ---- an answer of the code
 
--- not the first of its variants
-abbrev pub NoCount : Answer → Type 0
-NoCount a = (n : ℕ) → a ≡ Count n → ⊥
+pub is_numbered : (c : Condition) → 0 < number_of c
+is_numbered NoNewline = omega arith
+is_numbered NotFiveCommas = omega arith
+is_numbered UnknownMark = omega arith
+is_numbered UnknownOpcode = omega arith
+is_numbered WrongFields = omega arith
+is_numbered WrongOperand = omega arith
+is_numbered TooManyLines = omega arith
+is_numbered StoreFull = omega arith
+is_numbered TooLong = omega arith
+is_numbered ReservedPlace = omega arith
+is_numbered WrongDestination = omega arith
+is_numbered SensitiveArgument = omega arith
+is_numbered NoMacro = omega arith
+is_numbered NoBit = omega arith
+is_numbered TargetAbove = omega arith
+is_numbered NoRoom = omega arith
+is_numbered WrongLength = omega arith
+is_numbered WrongImage = omega arith
+is_numbered TraceTooShort = omega arith
+is_numbered SeveralValues = omega arith
+is_numbered TooManyValues = omega arith
+is_numbered UnknownLayout = omega arith
+is_numbered WrongLabel = omega arith
+is_numbered NoCounterpart = omega arith
+is_numbered WrongWatch = omega arith
+is_numbered WrongMap = omega arith
+is_numbered WrongChoice = omega arith
+is_numbered TooFewWords = omega arith
 
-pub record Refusal (r : Report) : Type 0 where
-  pub number : ℕ
-  pub line : ℕ
-  pub is : r ≡ refused number line
+pub none_0 : (o : Option Condition) → is_some o ≡ false → number_or_0 o ≡ 0
+none_0 None e = refl
+none_0 (Some c) e = absurd (let z : ◌≡◌ {A = ℕ} 0 1 = cc in omega arith)
 
-pub count-told : {r : Report} {a : Answer} {n : ℕ} → a ≡ Count n → report a ≡ r → r ≡ counted n
+-- a condition that holds is told from none by its number
+pub holds_some : {n : ℕ} (c : Condition) → number_of c ≡ n → n ≡ 0 → ⊥
+holds_some c e z = let h = is_numbered c in omega arith
+
+pub some_numbered : (o : Option Condition) → is_some o ≡ true → number_or_0 o ≡ 0 → ⊥
+some_numbered None e z = let y : ◌≡◌ {A = ℕ} 0 1 = cc in omega arith
+some_numbered (Some c) e z = holds_some c refl z
+
+pub count-told : {r : Report} {a : Result ℕ (Refusal ℕ)} {n : ℕ} → a ≡ Ok n → report a ≡ r → r ≡ counted n
 count-told q e = sym e ∙ ap report q
 
-pub never_counts : (n : ℕ) → NoCount (Count n) → ⊥
-never_counts n h = h n refl
+-- the paper's answer to what the code refuses
+abbrev pub refusal : Refusal ℕ → Report
+refusal f = refused (number_of f.condition) f.line
 
+pub refusal-told : {r : Report} {a : Result ℕ (Refusal ℕ)} {f : Refusal ℕ} → a ≡ Err f → report a ≡ r → r ≡ refusal f
+refusal-told q e = sym e ∙ ap report q
+
+-- a refusal stands, whatever would be asked after it
+pub refusal_stands : {r : Report} (f : Refusal ℕ) → r ≡ refusal f → (x : Report) → refusal f ≡ and_then r x
+refusal_stands f e x = rw e
+
+-- a refusal leaves the stores as they are
+pub refusal_leaves : {r : Report} (f : Refusal ℕ) → r ≡ refusal f → (ss : List (List ℕ)) (x : Outcome) → outcome (refusal f) ss ≡ unless_refused r ss x
+refusal_leaves f e ss x = rw e
+
+-- what reads, checks or expands answers no ending
 pub no_ending : {r : Report} (k i s : ℕ) → CountOrRefusal r → done (k ∷ i ∷ s ∷ []) ≡ r → ⊥
 no_ending k i s (counts n e) q = let z : done (k ∷ i ∷ s ∷ []) ≡ done (n ∷ []) = q ∙ e in let w : ◌≡◌ {A = ℕ} 0 1 = cc in omega arith
 no_ending k i s (refuses m l e) q = never_done (sym (q ∙ e))
-
-pub no_count_refuses : {r : Report} (a : Answer) → NoCount a → CountOrRefusal r → report a ≡ r → Refusal r
-no_count_refuses (Count n) h c e = absurd (never_counts n h)
-no_count_refuses (Halted i s) h c e = absurd (no_ending 0 i s c e)
-no_count_refuses (Spent i s) h c e = absurd (no_ending 1 i s c e)
-no_count_refuses (Refused k l) h c e = record { number = k; line = l; is = sym e }
-
--- a refusal stands, whatever would be asked after it
-pub refusal_stands : {r : Report} → Refusal r → (x : Report) → r ≡ and_then r x
-refusal_stands f x = rw f.is
-
--- a refusal leaves the stores as they are
-pub refusal_leaves : {r : Report} → Refusal r → (ss : List (List ℕ)) (x : Outcome) → outcome r ss ≡ unless_refused r ss x
-refusal_leaves f ss x = rw f.is
-
--- the code hands a check's refusal on: what is no count
-pub handed_on : {r : Report} (a : Answer) → NoCount a → CountOrRefusal r → report a ≡ r → (ss : List (List ℕ)) (x : Outcome) → outcome (report a) ss ≡ unless_refused r ss x
-handed_on a h c e ss x = rw e (refusal_leaves (no_count_refuses a h c e) ss x)

@@ -6,7 +6,7 @@ use mathlib.Core.List.{List, [], ◌∷◌}
 use Prim.Native.Nat.{ℕ, zero, suc, ◌+◌, ◌*◌, ◌%◌, ◌<◌}
 use native.Mathlib.Omega.{arith}
 use borrow.Author.Tests.{ltb-true}
-use lib.Dec.{T, eqb, ltb, eqb→eq, ltb→lt}
+use lib.Dec.{T, eqb, ltb, eqb→eq}
 use lib.Bits.{bit_and, bit_or, bit_xor}
 use lib.Count.{ones}
 use lib.ListN.{get_or}
@@ -14,7 +14,7 @@ use Rattle.model.specs.declared.Mark.TheVariants.{Marked}
 use Rattle.model.specs.declared.Opcode.{Opcode}
 use Rattle.model.specs.declared.Opcode.TheVariants.{Not, And, Orr, Xor}
 use Rattle.model.specs.declared.Layout.{Layout}
-use Rattle.model.specs.Layouts.{layout_of, neighbours, Known, named}
+use Rattle.model.specs.Layouts.{neighbours, Known, named}
 use Rattle.model.specs.Step.{weight, distance, alu}
 use Rattle.model.specs.Code.{code, page, and_table, orr_table, xor_table, code_table}
 use Rattle.model.proofs.TestLaws.{and_both, all_below, all_below_lem}

@@ -3,6 +3,9 @@
 
 #![tactic(auto)]
 
+ghost use Rattle.std.specs.Prelude.{◌≡◌};
+ghost use Rattle.model.specs.Answers.{number_of};
+
 // The bounds, as specs/Limits has them: the numbers of a stored line and of a trace row, the bytes of a state, the most
 // lines of a program and of an accepted one, the most lines that one line expands to.
 pub const LINE_WIDTH: usize = 6;
@@ -18,13 +21,13 @@ pub const MAX_ACCEPTED: usize = 1024;
 pub const LONGEST: usize = 18;
 
 // Whether a line handles key bits: u is Unmarked, s is Marked.
-#[derive(Clone, Copy)]
+#[derive(Clone, Copy, PartialEq, Eq)]
 pub enum Mark {
     Unmarked,
     Marked,
 }
 
-#[derive(Clone, Copy)]
+#[derive(Clone, Copy, PartialEq, Eq)]
 pub enum Opcode {
     Nop,
     Jmp,
@@ -42,7 +45,7 @@ pub enum Opcode {
 }
 
 // One field of a line: empty, `#n`, `rN`, `@n`, and the indirect forms `!rN+k`, `%rN+k` and `^rN+k`.
-#[derive(Clone, Copy)]
+#[derive(Clone, Copy, PartialEq, Eq)]
 pub enum Operand {
     Empty,
     Literal(u8),
@@ -54,14 +57,14 @@ pub enum Operand {
 }
 
 // What a place may hold: r4 to r15 and cells 0 to 127 are public, r16 to r31 and cells 128 to 255 sensitive, all others neither.
-#[derive(Clone, Copy)]
+#[derive(Clone, Copy, PartialEq, Eq)]
 pub enum Kind {
     Neither,
     Public,
     Sensitive,
 }
 
-#[derive(Clone, Copy)]
+#[derive(Clone, Copy, PartialEq, Eq)]
 pub enum Target {
     Empty,
     Line(u16),
@@ -89,14 +92,70 @@ pub struct Line {
     pub target: Target,
 }
 
-// What an entry point answers. `report` of specs/Answers gives the paper's number and values of each case.
+// Why a call is turned down: the conditions, each under its number; 13 no longer occurs.
+#[derive(Clone, Copy, PartialEq, Eq)]
+pub enum Condition {
+    NoNewline = 1,
+    NotFiveCommas = 2,
+    UnknownMark = 3,
+    UnknownOpcode = 4,
+    WrongFields = 5,
+    WrongOperand = 6,
+    TooManyLines = 7,
+    StoreFull = 8,
+    TooLong = 9,
+    ReservedPlace = 10,
+    WrongDestination = 11,
+    SensitiveArgument = 12,
+    NoMacro = 14,
+    NoBit = 15,
+    TargetAbove = 16,
+    NoRoom = 17,
+    WrongLength = 18,
+    WrongImage = 19,
+    TraceTooShort = 20,
+    SeveralValues = 21,
+    TooManyValues = 22,
+    UnknownLayout = 23,
+    WrongLabel = 24,
+    NoCounterpart = 25,
+    WrongWatch = 26,
+    WrongMap = 27,
+    WrongChoice = 28,
+    TooFewWords = 29,
+}
+
+impl From<Condition> for u8 {
+    ghost from_gives = { λ c n. n ≡ number_of c };
+
+    fn from(condition: Condition) -> u8 {
+        condition as u8
+    }
+}
+
+// What a call answers that is turned down: the condition that holds, and the line. Lines of a program are told by 16 bits, lines of a
+// published text by a `usize`.
 #[derive(Clone, Copy)]
-pub enum Answer {
-    // The lines read, checked or expanded, or the bytes written.
-    Count(u32),
-    // A run that reached the end of its program, and one that used up its budget.
+pub struct Refusal<L = u16> {
+    pub condition: Condition,
+    pub line: L,
+}
+
+// A line of a program, told as one of a text.
+impl From<Refusal> for Refusal<usize> {
+    ghost from_gives = { λ r w. w ≡ r };
+
+    fn from(refusal: Refusal) -> Refusal<usize> {
+        Refusal {
+            condition: refusal.condition,
+            line: refusal.line as usize,
+        }
+    }
+}
+
+// How a run ends: at the end of its program, or with its budget used up.
+#[derive(Clone, Copy)]
+pub enum Ending {
     Halted { counter: u16, steps: u16 },
     Spent { counter: u16, steps: u16 },
-    // The number of the condition that holds, and the line.
-    Refused { number: u8, line: u16 },
 }

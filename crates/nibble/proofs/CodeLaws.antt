@@ -3,14 +3,14 @@
 use mathlib.Core.Path.{◌≡◌, refl, sym, ap, ◌∙◌}
 use mathlib.Core.Bool.{Bool, true, false, cond, ◌&&◌, false≢true}
 use mathlib.Core.List.{List, [], ◌∷◌}
-use Prim.Native.Nat.{ℕ, zero, suc, ◌+◌, ◌<◌, ◌≤◌}
+use Prim.Native.Nat.{ℕ, ◌+◌, ◌<◌}
 use native.Mathlib.Omega.{arith}
 use borrow.Author.Tests.{ne_eqb, lt-ltb, le-ltb}
 use lib.Count.{ones}
 use lib.Dec.{T, eqb, ltb, eqb→eq, ltb→lt}
 use lib.ListN.{get_or-eq_default}
 use Rattle.model.proofs.TestLaws.{and_both, all_below, all_below_lem, below}
-use Rattle.nibble.specs.Nibbles.{codewords, codeword, nibble_from, decoded, in_code, entries}
+use Rattle.nibble.specs.Nibbles.{codewords, codeword, nibble_from, decoded, in_code}
 use Rattle.nibble.specs.Claims.{Coding, Decoding}
 
 -- ---- coding
@@ -93,41 +93,3 @@ decoded_again c = go (in_code c) refl
     go : (t : Bool) → in_code c ≡ t → codeword (decoded c) ≡ cond t c 0
     go true e = (decoding c).inside e
     go false e = ap codeword ((decoding c).outside e)
-
--- ---- the arms of `encode` and `decode`: each names a number, and the last knows that it is none of these, in this order
-
-pub encodes : {n : ℕ} (k : ℕ) → n ≡ k → codeword k ≡ codeword n
-encodes k e = ap codeword (sym e)
-
-pub decodes : {c : ℕ} (n : ℕ) → n < 16 → c ≡ codeword n → n ≡ decoded c
-decodes n h e = sym (coding n h).back ∙ ap decoded (sym e)
-
-abbrev pub Others : Type 0 → List ℕ → ℕ → Type 0
-Others P [] c = P
-Others P (w ∷ ws) c = Others (P × (c ≡ w → ⊥)) ws c
-
-before : (P : Type 0) (ws : List ℕ) (c : ℕ) → Others P ws c → P
-before P [] c p = p
-before P (w ∷ ws) c p = (before (P × (c ≡ w → ⊥)) ws c p).0
-
-none_from : (P : Type 0) (n : ℕ) (ws : List ℕ) (c : ℕ) → Others P ws c → 255 ≡ nibble_from n ws c
-unfolding nibble_from
-none_from P n [] c p = refl
-none_from P n (w ∷ ws) c p = rw (ne_eqb c w (before (P × (c ≡ w → ⊥)) ws c p).1) (none_from (P × (c ≡ w → ⊥)) (n + 1) ws c p)
-
-pub none_of_them : (c : ℕ) → Others (Unit {0}) codewords c → 255 ≡ decoded c
-unfolding decoded
-none_of_them c p = none_from (Unit {0}) 0 codewords c p
-
--- the numbers from k on, m of them
-past : (P : Type 0) (k m n : ℕ) → Others P (entries (λ i. i) k m) n → k ≤ n → k + m ≤ n
-unfolding entries
-past P k zero n p h = omega arith
-past P k (suc m) n p h =
-    let Q = P × (n ≡ k → ⊥) in
-    let g : k + 1 ≤ n = below n (k + 1) (λ l. absurd ((before Q (entries (λ i. i) (k + 1) m) n p).1 (omega arith))) (λ l. l) in
-    let r = past Q (k + 1) m n p g in
-    omega arith
-
-pub none_below_16 : (n : ℕ) → Others (Unit {0}) (entries (λ i. i) 0 16) n → 0 ≡ codeword n
-none_below_16 n p = above_15 n (past (Unit {0}) 0 16 n p (omega arith))

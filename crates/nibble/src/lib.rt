@@ -3,11 +3,11 @@
 
 #![tactic(auto)]
 
-ghost use Rattle.std.specs.Prelude.{◌≡◌, [], ◌∷◌, ◌≤◌, length, replicate};
+ghost use Rattle.std.specs.Prelude.{◌≡◌, [], ◌∷◌, ◌<◌, ◌≤◌, length, replicate, OnOk, IfErr};
 ghost use Rattle.model.specs.Answers.{report, outcome};
 ghost use Rattle.nibble.specs.Nibbles.{codeword, decoded, xor_table, map_table, result_of, pair_result, first_above, map_outcome};
 
-use model::Answer;
+use model::{Condition, Refusal};
 use table::XOR_TABLE;
 
 pub mod results;
@@ -24,6 +24,7 @@ pub const PAIRS: usize = 4096;
 
 // Coding: the codeword of a nibble, 0 above 15. It is a match, here and in decoding, because that is compiled to a table which is there once, and
 // an array of constants is made anew at each call.
+#[tactic(auto, using(crate::proofs::CodeLaws::above_15), unfolding(crate::specs::Nibbles::codeword))]
 pub fn encode(n: u8) -> u8
     ensures { result ≡ codeword n }
 {
@@ -49,6 +50,7 @@ pub fn encode(n: u8) -> u8
 }
 
 // Decoding: the nibble of a codeword, 255 outside the code.
+#[tactic(auto, unfolding(crate::specs::Nibbles::decoded))]
 pub fn decode(c: u8) -> u8
     ensures { result ≡ decoded c }
 {
@@ -79,20 +81,14 @@ pub fn decode(c: u8) -> u8
 pub fn look_up(table: &[u8; WORDS], c: u8) -> u8
     ensures { result ≡ result_of table.now c }
 {
-    if 63 < c {
-        return 0;
-    }
-    table[c as usize]
+    table.get(c as usize).copied().unwrap_or(0)
 }
 
 // The result of a table of 4,096 entries for two operands, 0 where either is above 63.
 pub fn look_up_pair(table: &[u8; PAIRS], a: u8, b: u8) -> u8
     ensures { result ≡ pair_result table.now a b }
 {
-    if 63 < a {
-        return 0;
-    }
-    if 63 < b {
+    if 63 < a || 63 < b {
         return 0;
     }
     table[64 * (a as usize) + b as usize]
@@ -120,50 +116,49 @@ pub fn xor(a: u8, b: u8) -> u8
 // The answer, and the table, all 0 after a refusal.
 #[derive(Clone, Copy)]
 pub struct MapTable {
-    pub answer: Answer,
+    pub answer: Result<u32, Refusal>,
     pub table: [u8; WORDS],
 }
 
-// C(m(a)) at C(a), over zeros, up to the first value above 15; its index, 16 where there is none.
-fn fill(map: &[u8], table: &mut [u8; WORDS]) -> usize
+// C(m(a)) at C(a), over zeros; the index of the first value above 15, where there is one.
+fn fill(map: &[u8], table: &mut [u8; WORDS]) -> Result<(), usize>
     requires map_len { length map.now ≡ 16 }
     requires zeros { table.old ≡ replicate 64 0 }
-    ensures index { result ≡ first_above map.now }
-    ensures table { 16 ≤ result → table.new ≡ map_table map.now }
+    ensures ok { OnOk result ((16 ≤ first_above map.now) × (table.new ≡ map_table map.now)) }
+    ensures err { IfErr result (λ i. (i ≡ first_above map.now) × (i < 16)) }
 {
-    let mut a: usize = 0;
-    while a < NIBBLES {
+    for a in 0..NIBBLES {
         let value = map[a];
         if 15 < value {
-            return a;
+            return Err(a);
         }
         let at = encode(a as u8) as usize;
         table[at] = encode(value);
-        a += 1;
     }
-    a
+    Ok(())
 }
 
 // The table of a map of nibbles, given by its 16 values, written into a lent one; all 0 after a refusal.
-pub fn map_table_into(map: &[u8], table: &mut [u8; WORDS]) -> Answer
+pub fn map_table_into(map: &[u8], table: &mut [u8; WORDS]) -> Result<u32, Refusal>
     ensures { outcome (report result) (table.new ∷ []) ≡ map_outcome map.now }
 {
     *table = [0; WORDS];
     if map.len() != NIBBLES {
-        return Answer::Refused {
-            number: 27,
+        return Err(Refusal {
+            condition: Condition::WrongMap,
             line: 0,
-        };
+        });
     }
-    let i = fill(map, table);
-    if i < NIBBLES {
-        *table = [0; WORDS];
-        return Answer::Refused {
-            number: 27,
-            line: i as u16,
-        };
+    match fill(map, table) {
+        Ok(()) => Ok(64),
+        Err(i) => {
+            *table = [0; WORDS];
+            Err(Refusal {
+                condition: Condition::WrongMap,
+                line: i as u16,
+            })
+        }
     }
-    Answer::Count(64)
 }
 
 // The same by value.

@@ -7,9 +7,10 @@ ghost use Rattle.nibble.specs.Nibbles.{in_code, map_check};
 ghost use Rattle.nibble.specs.Claims.{XorResult, MapResult};
 
 use crate::{decode, encode, look_up, map_table, xor};
-use model::Answer;
+use model::Refusal;
 
 // A nibble coded and decoded, 255 above 15.
+#[tactic(auto, using(crate::proofs::CodeLaws::coded_again))]
 pub fn coded(n: u8) -> u8
     ensures { result ≡ cond (ltb n 16) n 255 }
 {
@@ -17,6 +18,7 @@ pub fn coded(n: u8) -> u8
 }
 
 // A codeword decoded and coded, 0 outside the code.
+#[tactic(auto, using(crate::proofs::CodeLaws::decoded_again))]
 pub fn recoded(c: u8) -> u8
     ensures { result ≡ cond (in_code c) c 0 }
 {
@@ -24,6 +26,7 @@ pub fn recoded(c: u8) -> u8
 }
 
 // The exclusive-or table's result for any two operands.
+#[tactic(auto, using(crate::proofs::ResultLaws::xor_results))]
 pub fn xor_result(a: u8, b: u8) -> u8
     ensures { XorResult a b result }
 {
@@ -32,7 +35,7 @@ pub fn xor_result(a: u8, b: u8) -> u8
 
 #[derive(Clone, Copy)]
 pub struct Looked {
-    pub answer: Answer,
+    pub answer: Result<u32, Refusal>,
     pub result: u8,
 }
 
@@ -42,10 +45,8 @@ pub fn map_result(map: &[u8], c: u8) -> Looked
     ensures map_result { MapResult map.now (report result.answer) c result.result }
 {
     let made = map_table(map);
-    let answer = made.answer;
-    let table = made.table;
     Looked {
-        answer,
-        result: look_up(&table, c),
+        answer: made.answer,
+        result: look_up(&made.table, c),
     }
 }

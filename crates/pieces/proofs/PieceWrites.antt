@@ -1,12 +1,13 @@
 -- The pieces written line by line, and an opcode's macro by its arm: each is what the definition lists.
 -- Assumes nothing.
 use mathlib.Core.Path.{◌≡◌, refl}
-use mathlib.Core.Bool.{Bool, true, false, cond}
+use mathlib.Core.Bool.{true, false}
 use mathlib.Core.List.{List, [], ◌∷◌}
 use Prim.Native.Nat.{ℕ, ◌+◌, ◌*◌, ◌≤◌, ◌<◌}
 use native.Mathlib.Omega.{arith}
 use lib.ListN.{length}
 use Rattle.model.specs.declared.Layout.{Layout}
+use Rattle.model.specs.declared.Line.{Line}
 use Rattle.model.specs.declared.Opcode.{Opcode}
 use Rattle.model.specs.declared.Opcode.TheVariants.{Nop, Jmp, Not, Mov, And, Orr, Xor, Lsl, Lsr, Add, Mul, Beq, Bne}
 use Rattle.model.specs.declared.Operand.{Operand}
@@ -14,8 +15,8 @@ use Rattle.model.specs.declared.Operand.TheVariants.{Literal, Register, TableCel
 use Rattle.model.specs.Stored.{literals, registers, operand_of}
 use Rattle.model.specs.Places.{is_public, kind_of}
 use Rattle.model.specs.Code.{code_table}
-use Rattle.model.specs.Expansion.{marked_line, move, precharged, code_bit, load, shifts, scale, combine, fetch, flip, write_back, lookup, macro}
-use Rattle.pieces.specs.Opcodes.{has_table, table_of, unary}
+use Rattle.model.specs.Expansion.{marked_line, move, precharged, code_bit, load, shifts, scale, combine, fetch, flip, write_back, lookup, macro, negate, copy}
+use Rattle.model.specs.Code.{and_table, orr_table, xor_table}
 use Rattle.pieces.specs.Writes.{Wrote}
 use Rattle.pieces.proofs.StoreWrites.{wrote_none, wrote_then}
 use Rattle.pieces.proofs.PartNumbers.{register_number, literal_number}
@@ -75,39 +76,53 @@ module _ {out o o' : List ℕ} {at k m : ℕ} where
     unfolding scale shifts operand_of
     near_wrote q w v u = rw (← e, q) (wrote_then w (wrote_then v u))
 
--- ---- an opcode's macro, by whether it has a table
+-- ---- the macro of an opcode
 
-macro_by_lem : (L : Layout) (o : Opcode) (d a b : Operand) → macro L o d a b ≡ cond (has_table o) (lookup L (table_of L o) d a b) (unary L o d a)
-unfolding macro unary
-macro_by_lem L Nop d a b = refl
-macro_by_lem L Jmp d a b = refl
-macro_by_lem L Not d a b = refl
-macro_by_lem L Mov d a b = refl
-macro_by_lem L And d a b = refl
-macro_by_lem L Orr d a b = refl
-macro_by_lem L Xor d a b = refl
-macro_by_lem L Lsl d a b = refl
-macro_by_lem L Lsr d a b = refl
-macro_by_lem L Add d a b = refl
-macro_by_lem L Mul d a b = refl
-macro_by_lem L Beq d a b = refl
-macro_by_lem L Bne d a b = refl
+module _ (L : Layout) (o : Opcode) (d a b : Operand) where
+  pub not_macro : o ≡ Not → macro L o d a b ≡ negate L d a
+  unfolding macro
+  not_macro e = rw e
 
-module _ (L : Layout) (o : Opcode) (d a b : Operand) (x : Bool) (e : x ≡ has_table o) where
-  pub table_macro : (t : ℕ) → x ≡ true → t ≡ table_of L o → macro L o d a b ≡ lookup L t d a b
-  table_macro t y f = rw (f, macro_by_lem L o d a b, ← e, y)
+  pub mov_macro : o ≡ Mov → macro L o d a b ≡ copy d a
+  unfolding macro
+  mov_macro e = rw e
 
-  pub unary-macro : x ≡ false → macro L o d a b ≡ unary L o d a
-  unary-macro n = rw (macro_by_lem L o d a b, ← e, n)
+  pub and_macro : (t : ℕ) → o ≡ And → t ≡ and_table L → macro L o d a b ≡ lookup L t d a b
+  unfolding macro
+  and_macro t e h = rw (e, h)
 
--- ---- one without a table, by its arm, and the room for it; an opcode without a macro
+  pub orr_macro : (t : ℕ) → o ≡ Orr → t ≡ orr_table L → macro L o d a b ≡ lookup L t d a b
+  unfolding macro
+  orr_macro t e h = rw (e, h)
 
-module _ (L : Layout) (x y : Opcode) (d a : Operand) (e : x ≡ y) where
-  pub arm_wrote : {out o : List ℕ} {at k : ℕ} → Wrote out o at k (unary L y d a) → Wrote out o at k (unary L x d a)
-  arm_wrote h = rw e h
+  pub xor_macro : (t : ℕ) → o ≡ Xor → t ≡ xor_table L → macro L o d a b ≡ lookup L t d a b
+  unfolding macro
+  xor_macro t e h = rw (e, h)
 
-  pub arm_room : (out : List ℕ) (at : ℕ) → 6 * (at + length (unary L x d a)) ≤ length out → 6 * (at + length (unary L y d a)) ≤ length out
-  arm_room out at h = rw (← e) h
+-- the others have none
+pub no_macro : (L : Layout) (o : Opcode) (d a b : Operand) → (o ≡ Not → ⊥) → (o ≡ Mov → ⊥) → (o ≡ And → ⊥) → (o ≡ Orr → ⊥) → (o ≡ Xor → ⊥) → macro L o d a b ≡ []
+unfolding macro
+no_macro L Nop d a b p q r s t = refl
+no_macro L Jmp d a b p q r s t = refl
+no_macro L Not d a b p q r s t = absurd (p refl)
+no_macro L Mov d a b p q r s t = absurd (q refl)
+no_macro L And d a b p q r s t = absurd (r refl)
+no_macro L Orr d a b p q r s t = absurd (s refl)
+no_macro L Xor d a b p q r s t = absurd (t refl)
+no_macro L Lsl d a b p q r s t = refl
+no_macro L Lsr d a b p q r s t = refl
+no_macro L Add d a b p q r s t = refl
+no_macro L Mul d a b p q r s t = refl
+no_macro L Beq d a b p q r s t = refl
+no_macro L Bne d a b p q r s t = refl
 
-  pub nothing_wrote : (out : List ℕ) (at : ℕ) → unary L y d a ≡ [] → 6 * (at + length (unary L x d a)) ≤ length out → Wrote out out at at (unary L x d a)
-  nothing_wrote out at z h = rw (e, z) (wrote_none out at (omega (arith, rw (e, z) at h)))
+-- lines that are others
+module _ (x y : List Line) (e : x ≡ y) (out : List ℕ) (at : ℕ) where
+  pub same_wrote : {o : List ℕ} {k : ℕ} → Wrote out o at k y → Wrote out o at k x
+  same_wrote h = rw e h
+
+  pub same_room : 6 * (at + length x) ≤ length out → 6 * (at + length y) ≤ length out
+  same_room h = rw e at h
+
+pub nothing_wrote : (x : List Line) → x ≡ [] → (out : List ℕ) (at : ℕ) → 6 * (at + length x) ≤ length out → Wrote out out at at x
+nothing_wrote x e out at h = same_wrote x [] e out at (wrote_none out at (omega (arith, same_room x [] e out at h)))

@@ -8,7 +8,6 @@ ghost use Rattle.model.specs.declared.Operand.{Operand};
 ghost use Rattle.model.specs.declared.Target.{Target};
 ghost use Rattle.model.specs.Stored.{target_code, operand_of};
 ghost use Rattle.model.specs.Expansion.{coded, marked_line, move, precharged, code_bit, load, scale, combine, fetch, flip, write_back, lookup, negate, copy, macro};
-ghost use Rattle.pieces.specs.Opcodes.{has_table, table_of, unary};
 ghost use Rattle.pieces.specs.Writes.{line_with, Wrote};
 
 use marks::names_public;
@@ -46,14 +45,12 @@ fn table_cell(n: u16, t: u8) -> u16
 pub fn coded(layout: Layout, code: u16) -> u16
     ensures { operand_of result ≡ coded layout (operand_of code) }
 {
-    if code < coding::LITERALS {
-        return code;
+    match code {
+        coding::LITERALS..coding::REGISTERS => {
+            literal(coding::code_of(layout, (code - coding::LITERALS) as u8))
+        }
+        _ => code,
     }
-    if code < coding::REGISTERS {
-        let n = code - coding::LITERALS;
-        return literal(coding::code_of(layout, n as u8));
-    }
-    code
 }
 
 // ---- a line at line `at` of a store
@@ -136,8 +133,7 @@ fn put_scale(out: &mut [u16], at: usize, layout: Layout) -> usize
 {
     let masked = put_marked(out, at, Opcode::And, R1, R1, literal(layout.mask));
     let shifted = put_marked(out, masked, Opcode::Lsl, R1, R1, ONE);
-    let spaced = layout.spaced;
-    if spaced {
+    if layout.spaced {
         return shifted;
     }
     put_marked(out, shifted, Opcode::Lsl, R1, R1, ONE)
@@ -213,71 +209,8 @@ fn put_copy(out: &mut [u16], at: usize, d: u16, a: u16) -> usize
     put_write_back(out, loaded, 3, d)
 }
 
-// Whether an opcode looks up a table.
-fn has_table(o: Opcode) -> bool
-    ensures { result ≡ has_table o }
-{
-    match o {
-        Opcode::Nop => false,
-        Opcode::Jmp => false,
-        Opcode::Not => false,
-        Opcode::Mov => false,
-        Opcode::And => true,
-        Opcode::Orr => true,
-        Opcode::Xor => true,
-        Opcode::Lsl => false,
-        Opcode::Lsr => false,
-        Opcode::Add => false,
-        Opcode::Mul => false,
-        Opcode::Beq => false,
-        Opcode::Bne => false,
-    }
-}
-
-// Where that table begins, counted from cell 256; 0 for an opcode that has none.
-fn table_of(layout: Layout, o: Opcode) -> u8
-    ensures { result ≡ table_of layout o }
-{
-    match o {
-        Opcode::Nop => 0,
-        Opcode::Jmp => 0,
-        Opcode::Not => 0,
-        Opcode::Mov => 0,
-        Opcode::And => 0,
-        Opcode::Orr => layout.orr,
-        Opcode::Xor => layout.xor,
-        Opcode::Lsl => 0,
-        Opcode::Lsr => 0,
-        Opcode::Add => 0,
-        Opcode::Mul => 0,
-        Opcode::Beq => 0,
-        Opcode::Bne => 0,
-    }
-}
-
-// not and mov; all other opcodes give nothing here.
-fn put_unary(out: &mut [u16], at: usize, layout: Layout, o: Opcode, d: u16, a: u16) -> usize
-    requires { 6 * (at + length (unary layout o (operand_of d) (operand_of a))) ≤ length out.old }
-    ensures { Wrote out.old out.new at result (unary layout o (operand_of d) (operand_of a)) }
-{
-    match o {
-        Opcode::Nop => at,
-        Opcode::Jmp => at,
-        Opcode::Not => put_negate(out, at, layout, d, a),
-        Opcode::Mov => put_copy(out, at, d, a),
-        Opcode::And => at,
-        Opcode::Orr => at,
-        Opcode::Xor => at,
-        Opcode::Lsl => at,
-        Opcode::Lsr => at,
-        Opcode::Add => at,
-        Opcode::Mul => at,
-        Opcode::Beq => at,
-        Opcode::Bne => at,
-    }
-}
-
-// The macro of an opcode. The lookup is called in one place, so that the compiler inlines it into the loop over the lines.
+// The macro of an opcode; those that no accepted marked line has give nothing. The lookup is called in one place, so that the compiler inlines it
+// into the loop over the lines.
 pub fn put_macro(
     out: &mut [u16],
     at: usize,
@@ -290,8 +223,13 @@ pub fn put_macro(
     requires { 6 * (at + length (macro layout o (operand_of d) (operand_of a) (operand_of b))) ≤ length out.old }
     ensures { Wrote out.old out.new at result (macro layout o (operand_of d) (operand_of a) (operand_of b)) }
 {
-    if has_table(o) {
-        return put_lookup(out, at, layout, table_of(layout, o), d, a, b);
-    }
-    put_unary(out, at, layout, o, d, a)
+    let table = match o {
+        Opcode::Not => return put_negate(out, at, layout, d, a),
+        Opcode::Mov => return put_copy(out, at, d, a),
+        Opcode::And => 0,
+        Opcode::Orr => layout.orr,
+        Opcode::Xor => layout.xor,
+        _ => return at,
+    };
+    put_lookup(out, at, layout, table, d, a, b)
 }

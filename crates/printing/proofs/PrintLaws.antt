@@ -8,13 +8,14 @@ use native.Mathlib.Nat.{zero-add}
 use lib.ListN.{length, length-append}
 use lib.Seq.{sets}
 use borrow.Author.Tests.{lt-ltb, le-ltb}
-use Rattle.model.specs.declared.Answer.{Answer}
+use Rattle.std.specs.Prelude.{Result, Err}
+use Rattle.model.specs.declared.Refusal.{Refusal}
 use Rattle.model.specs.Limits.{max_lines}
 use Rattle.model.specs.Answers.{report, refused, counted, outcome, at_front}
 use Rattle.model.specs.Stored.{line_at, line_count, lines_from, lines, program_check}
 use Rattle.model.specs.Text.{spell_line, text_of, write_outcome, fitted}
 use Rattle.model.proofs.StoredLaws.{length-lines, program_checked}
-use Rattle.model.proofs.CheckAnswers.{program_answers, NoCount, handed_on}
+use Rattle.model.proofs.CheckAnswers.{refusal, refusal-told, refusal_leaves}
 use Rattle.printing.specs.Writing.{Wrote}
 use Rattle.printing.proofs.WroteLaws.{wrote_sets}
 use Rattle.printing.proofs.SizeLaws.{spelled_most}
@@ -87,9 +88,9 @@ module _ (p old out : List ℕ) (n at i : ℕ) (q : Printed p old out n at i) wh
 -- ---- the answer of a writing
 
 module _ (p out : List ℕ) where
-  pub write_refused : (a : Answer) → NoCount a → report a ≡ program_check p → outcome (report a) (out ∷ []) ≡ write_outcome p out
+  pub write_refused : (a : Result ℕ (Refusal ℕ)) (f : Refusal ℕ) → a ≡ Err f → report a ≡ program_check p → outcome (refusal f) (out ∷ []) ≡ write_outcome p out
   unfolding write_outcome
-  write_refused a h e = handed_on a h (program_answers p) e (out ∷ []) _
+  write_refused a f q e = refusal_leaves f (refusal-told q e) (out ∷ []) _
 
   -- a right program: its text is written where there is room
   module _ (n : ℕ) (e : program_check p ≡ counted n) where

@@ -17,7 +17,7 @@ use crate::size::text_size;
 use coding::{
     CELLS, LITERALS, PUBLICS, REGISTERS, SENSITIVES, TABLES, check_program, numbers_at, opcode_of,
 };
-use model::{Answer, LINE_WIDTH, Opcode};
+use model::{Condition, LINE_WIDTH, Opcode, Refusal};
 
 // A byte, where there is room.
 pub fn put(out: &mut [u8], at: usize, b: u8) -> usize
@@ -26,7 +26,6 @@ pub fn put(out: &mut [u8], at: usize, b: u8) -> usize
 {
     if at < out.len() {
         out[at] = b;
-        return at + 1;
     }
     at + 1
 }
@@ -63,14 +62,14 @@ pub fn put_tagged(out: &mut [u8], at: usize, c: u8, n: u16) -> usize
     put_number(out, a, n)
 }
 
-// An indirect operand: a sign, the base and the offset.
-fn put_indirect(out: &mut [u8], at: usize, c: u8, b: u16, k: u16) -> usize
-    requires { at + 13 ≤ printable }
-    ensures { Wrote out.old out.new at result (indirect c b k) 13 }
+// An indirect operand: a sign, the base and the offset, of w numbers to a base.
+fn put_indirect(out: &mut [u8], at: usize, c: u8, n: u16, w: u16) -> usize
+    requires { (at + 13 ≤ printable) × (0 < w) }
+    ensures { Wrote out.old out.new at result (indirect c (n / w) (n % w)) 13 }
 {
     let x = put(out, at, c);
-    let y = put_tagged(out, x, b'r', b);
-    put_tagged(out, y, b'+', k)
+    let y = put_tagged(out, x, b'r', n / w);
+    put_tagged(out, y, b'+', n % w)
 }
 
 // An operand's number; 0 is an empty field.
@@ -78,28 +77,15 @@ pub fn put_operand(out: &mut [u8], at: usize, k: u16) -> usize
     requires { at + 13 ≤ printable }
     ensures { Wrote out.old out.new at result (spell_operand (operand_of k)) 13 }
 {
-    if k < LITERALS {
-        return at;
+    match k {
+        LITERALS..REGISTERS => put_tagged(out, at, b'#', k - LITERALS),
+        REGISTERS..CELLS => put_tagged(out, at, b'r', k - REGISTERS),
+        CELLS..PUBLICS => put_tagged(out, at, b'@', k - CELLS),
+        PUBLICS..SENSITIVES => put_indirect(out, at, b'!', k - PUBLICS, 128),
+        SENSITIVES..TABLES => put_indirect(out, at, b'%', k - SENSITIVES, 128),
+        TABLES.. => put_indirect(out, at, b'^', k - TABLES, 256),
+        _ => at,
     }
-    if k < REGISTERS {
-        return put_tagged(out, at, b'#', k - LITERALS);
-    }
-    if k < CELLS {
-        return put_tagged(out, at, b'r', k - REGISTERS);
-    }
-    if k < PUBLICS {
-        return put_tagged(out, at, b'@', k - CELLS);
-    }
-    if k < SENSITIVES {
-        let n = k - PUBLICS;
-        return put_indirect(out, at, b'!', n / 128, n % 128);
-    }
-    if k < TABLES {
-        let n = k - SENSITIVES;
-        return put_indirect(out, at, b'%', n / 128, n % 128);
-    }
-    let n = k - TABLES;
-    put_indirect(out, at, b'^', n / 256, n % 256)
 }
 
 // A target's number; 0 is an empty field.
@@ -118,18 +104,14 @@ fn put_mark(out: &mut [u8], at: usize, k: u16) -> usize
     requires { at + 1 ≤ printable }
     ensures { Wrote out.old out.new at result (spell_mark (mark_of k)) 1 }
 {
-    if k == 0 {
-        return put(out, at, b'u');
-    }
-    put(out, at, b's')
+    put(out, at, if k == 0 { b'u' } else { b's' })
 }
 
 // The three letters of opcode k as one number, the first letter highest. A table of names would be copied for each line.
 fn letters(k: u16) -> u32
     ensures { (result < 16777216) × (spell_opcode (opcode_of k) ≡ result / 65536 ∷ result / 256 % 256 ∷ result % 256 ∷ []) }
 {
-    let opcode = opcode_of(k);
-    match opcode {
+    match opcode_of(k) {
         Opcode::Nop => 0x6e6f70,
         Opcode::Jmp => 0x6a6d70,
         Opcode::Not => 0x6e6f74,
@@ -196,11 +178,9 @@ fn print(program: &[u16], n: usize, out: &mut [u8]) -> usize
     ensures { Wrote out.old out.new 0 result (flat_map spell_line (lines_from program.now 0 n)) (54 * n) }
 {
     let mut at: usize = 0;
-    let mut i: usize = 0;
-    while i < n {
+    for i in 0..n {
         let l = numbers_at(program, i);
         at = put_line(out, at, l[0], l[1], l[2], l[3], l[4], l[5]);
-        i += 1;
     }
     at
 }
@@ -210,25 +190,17 @@ pub const LONGEST_LINE: usize = 34;
 
 // Writes the text of a stored program. That it fits is known before a byte is written: there is room for as many of the longest lines, or
 // the text's bytes are counted.
-pub fn write(program: &[u16], out: &mut [u8]) -> Answer
+pub fn write(program: &[u16], out: &mut [u8]) -> Result<u32, Refusal>
     ensures { outcome (report result) (out.new ∷ []) ≡ write_outcome program.now out.old }
 {
-    let checked = check_program(program);
-    let Answer::Count(_) = checked else {
-        return checked;
-    };
+    check_program(program)?;
     let n = program.len() / LINE_WIDTH;
-    // 0 where there is room for any lines.
-    let mut size: usize = 0;
-    if out.len() < LONGEST_LINE * n {
-        size = text_size(program, n);
-    }
-    if out.len() < size {
-        return Answer::Refused {
-            number: 17,
+    if out.len() < LONGEST_LINE * n && out.len() < text_size(program, n) {
+        return Err(Refusal {
+            condition: Condition::NoRoom,
             line: 0,
-        };
+        });
     }
     let written = print(program, n, out);
-    Answer::Count(written as u32)
+    Ok(written as u32)
 }

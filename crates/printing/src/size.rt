@@ -1,5 +1,6 @@
 // How long the spelling of stored numbers is, so that a text's length is known before a byte is written.
-ghost use Rattle.std.specs.Prelude.{◌≡◌, ℕ, ◌≤◌, length};
+// Counted by functions of its own: `print` into an empty part gives the length too, but writing into a store that just fits then takes 1.46 times as long.
+ghost use Rattle.std.specs.Prelude.{◌≡◌, ℕ, ◌+◌, ◌/◌, ◌%◌, ◌<◌, ◌≤◌, length};
 ghost use mathlib.Core.List.{flat_map};
 ghost use Rattle.model.specs.Limits.{max_lines};
 ghost use Rattle.model.specs.Stored.{operand_of, target_of, line_of, lines_from};
@@ -11,47 +12,36 @@ use coding::{CELLS, LITERALS, PUBLICS, REGISTERS, SENSITIVES, TABLES, numbers_at
 fn digit_count(n: u16) -> usize
     ensures { (result ≡ length (decimal n)) × (result ≤ 5) }
 {
-    if n < 10 {
-        return 1;
+    match n {
+        0..10 => 1,
+        10..100 => 2,
+        100..1000 => 3,
+        1000..10000 => 4,
+        _ => 5,
     }
-    if n < 100 {
-        return 2;
-    }
-    if n < 1000 {
-        return 3;
-    }
-    if n < 10000 {
-        return 4;
-    }
-    5
+}
+
+// The bytes of an indirect operand: a sign, the base and the offset, of w numbers to a base.
+fn indirect_size(n: u16, w: u16) -> usize
+    requires { 0 < w }
+    ensures { (result ≡ 3 + length (decimal (n / w)) + length (decimal (n % w))) × (result ≤ 13) }
+{
+    3 + digit_count(n / w) + digit_count(n % w)
 }
 
 // An operand's bytes.
 fn operand_size(k: u16) -> usize
     ensures { (result ≡ length (spell_operand (operand_of k))) × (result ≤ 13) }
 {
-    if k < LITERALS {
-        return 0;
+    match k {
+        LITERALS..REGISTERS => 1 + digit_count(k - LITERALS),
+        REGISTERS..CELLS => 1 + digit_count(k - REGISTERS),
+        CELLS..PUBLICS => 1 + digit_count(k - CELLS),
+        PUBLICS..SENSITIVES => indirect_size(k - PUBLICS, 128),
+        SENSITIVES..TABLES => indirect_size(k - SENSITIVES, 128),
+        TABLES.. => indirect_size(k - TABLES, 256),
+        _ => 0,
     }
-    if k < REGISTERS {
-        return 1 + digit_count(k - LITERALS);
-    }
-    if k < CELLS {
-        return 1 + digit_count(k - REGISTERS);
-    }
-    if k < PUBLICS {
-        return 1 + digit_count(k - CELLS);
-    }
-    if k < SENSITIVES {
-        let n = k - PUBLICS;
-        return 3 + digit_count(n / 128) + digit_count(n % 128);
-    }
-    if k < TABLES {
-        let n = k - SENSITIVES;
-        return 3 + digit_count(n / 128) + digit_count(n % 128);
-    }
-    let n = k - TABLES;
-    3 + digit_count(n / 256) + digit_count(n % 256)
 }
 
 // A target's bytes.
@@ -77,11 +67,9 @@ pub(crate) fn text_size(program: &[u16], n: usize) -> usize
     ensures { result ≡ length (flat_map spell_line (lines_from program.now 0 n)) }
 {
     let mut size: usize = 0;
-    let mut i: usize = 0;
-    while i < n {
+    for i in 0..n {
         let l = numbers_at(program, i);
         size += line_size(l[2], l[3], l[4], l[5]);
-        i += 1;
     }
     size
 }

@@ -11,8 +11,8 @@ use lib.ListN.{length, take, drop, length-append}
 use lib.Seq.{take_at}
 use Rattle.model.specs.Layouts.{neighbours}
 use Rattle.model.proofs.Finite.{near}
-use Rattle.model.specs.declared.Answer.{Answer}
-use Rattle.model.specs.declared.Answer.TheVariants.{Count}
+use Rattle.std.specs.Prelude.{Result, Ok, Err}
+use Rattle.model.specs.declared.Refusal.{Refusal}
 use Rattle.model.specs.declared.Line.{Line}
 use Rattle.model.specs.Limits.{line_width, longest, max_accepted, max_lines}
 use Rattle.model.specs.Answers.{Report, done, report, counted, refused, Outcome, outcome, and_then, unless_refused, at_front}
@@ -24,10 +24,10 @@ use Rattle.model.specs.Programs.{input_size, or_refusal, printed, expand_prints}
 use Rattle.model.proofs.StoredLaws.{counted_count, never_counted, codes-length}
 use Rattle.model.proofs.ExpansionLaws.{expansion_most, expansion_check, expansion_lines, mark_accepted}
 use Rattle.model.proofs.OutcomeLaws.{first_store}
-use Rattle.model.proofs.CheckAnswers.{CountOrRefusal, counts, refuses, either, then_answers, mark_answers, accepted_source, NoCount, count-told, Refusal, no_count_refuses, refusal_leaves}
+use Rattle.model.proofs.CheckAnswers.{CountOrRefusal, counts, refuses, mark_answers, accepted_source, refusal, count-told, refusal-told}
 use Rattle.model.specs.Text.{fitted}
 use Rattle.lines.specs.Reading.{read_input}
-use Rattle.lines.proofs.InputLaws.{read_input_lem, answer_is, refusal_read, stored_fits, stored-part}
+use Rattle.lines.proofs.InputLaws.{read_input_lem, answer_is, stored_fits, stored-part}
 use Rattle.programs.specs.Loading.{most_numbers, expansion_of, load_answer, load_outcome}
 use Rattle.programs.proofs.ReadRoom.{room_enough}
 
@@ -59,38 +59,28 @@ printed_is text input = refl
 
 -- ---- what loading answers
 
-pub load_answers : (input : List ℕ) → CountOrRefusal (load_answer input)
-load_answers input =
-    rw (load-answer input)
-    (either (ltb input_size (length input)) _ _ (refuses 8 0 refl)
-    (then_answers (read_input input).answer _ (then_answers (mark_check (read_input input).stored) _ (counts (length (expansion_of input)) refl))))
-
-pub load_refused : (input store : List ℕ) → Refusal (load_answer input) → outcome (load_answer input) (store ∷ []) ≡ load_outcome input store
-load_refused input store f = refusal_leaves f (store ∷ []) _ ∙ sym (load_outcome_lem input store)
+pub load_refused : (input store : List ℕ) (k l : ℕ) → load_answer input ≡ refused k l → outcome (refused k l) (store ∷ []) ≡ load_outcome input store
+load_refused input store k l e = sym (load_outcome_lem input store ∙ rw e)
 
 pub too_long : (input store : List ℕ) → input_size < length input → outcome (refused 8 0) (store ∷ []) ≡ load_outcome input store
 too_long input store h =
     let e : load_answer input ≡ refused 8 0 = load-answer input ∙ rw (lt-ltb input_size (length input) h) in
-    ap (λ (r : Report). outcome r (store ∷ [])) (sym e) ∙ load_refused input store (record { number = 8; line = 0; is = e })
+    load_refused input store 8 0 e
 
 -- ---- an input that is read
 
 -- by the two programs, whose stores have room for a line for each byte
-module _ (input store new : List ℕ) (a : Answer) (small : length input ≤ input_size) (room : length store ≡ line_width * input_size) (e : outcome (report a) (new ∷ []) ≡ read_outcome input store) where
+module _ (input store new : List ℕ) (a : Result ℕ (Refusal ℕ)) (small : length input ≤ input_size) (room : length store ≡ line_width * input_size) (e : outcome (report a) (new ∷ []) ≡ read_outcome input store) where
   reading_is : reading max_lines 0 (length store / line_width) input ≡ read_input input
   reading_is = room_enough max_lines 0 (length store / line_width) max_lines input (omega arith) (omega arith) ∙ sym (read_input_lem input)
 
   then_load : load_answer input ≡ and_then (report a) (and_then (mark_check (read_input input).stored) (counted (length (expansion_of input))))
   then_load = load-answer input ∙ rw (le-ltb input_size (length input) small, ← answer_is input store new a reading_is e)
 
-  pub read_refused : (listing : List ℕ) → NoCount a → outcome (report a) (listing ∷ []) ≡ load_outcome input listing
-  read_refused listing h =
-      let f : Refusal (read_input input).answer = refusal_read input store new a reading_is e h in
-      let r : report a ≡ refused f.number f.line = answer_is input store new a reading_is e ∙ f.is in
-      let q : load_answer input ≡ report a = then_load ∙ rw r in
-      ap (λ (r : Report). outcome r (listing ∷ [])) (sym q) ∙ load_refused input listing (record { number = f.number; line = f.line; is = q ∙ r })
+  pub read_refused : (listing : List ℕ) (f : Refusal ℕ) → a ≡ Err f → outcome (refusal f) (listing ∷ []) ≡ load_outcome input listing
+  read_refused listing f q = load_refused input listing _ _ (then_load ∙ rw q)
 
-  module _ (n : ℕ) (counted-n : a ≡ Count n) where
+  module _ (n : ℕ) (counted-n : a ≡ Ok n) where
     pub read_fits : line_width * n ≤ length new
     read_fits = stored_fits input store new a reading_is e n counted-n
 
@@ -139,7 +129,7 @@ passed false (refused j l) m k n e = absurd (never_counted e)
 passed false (done vs) (refused j l) k n e = absurd (never_counted e)
 passed false (done vs) (done ms) k n e = record { short = refl; values = vs; read = refl; marks = ms; marked = refl; count = counted_count e }
 
-module _ (input store new : List ℕ) (a : Answer) (e : outcome (report a) (new ∷ []) ≡ load_outcome input store) where
+module _ (input store new : List ℕ) (a : Result ℕ (Refusal ℕ)) (e : outcome (report a) (new ∷ []) ≡ load_outcome input store) where
   left-answer : (r : Report) (x : List ℕ) → (unless_refused r (store ∷ []) (outcome r (x ∷ []))).answer ≡ r
   left-answer (done vs) x = refl
   left-answer (refused k l) x = refl
@@ -148,11 +138,10 @@ module _ (input store new : List ℕ) (a : Answer) (e : outcome (report a) (new 
   loaded_answer = ap (λ (o : Outcome). o.answer) (e ∙ load_outcome_lem input store) ∙ left-answer (load_answer input) _
 
   -- a refusal is printed, whatever the text would be
-  pub refusal_printed : NoCount a → (text : List Line → List ℕ) → or_refusal (report a) [] ≡ printed text input
-  refusal_printed h text =
-      let f : Refusal (load_answer input) = no_count_refuses a h (load_answers input) loaded_answer in
-      ap (λ (r : Report). or_refusal r []) (loaded_answer ∙ f.is)
-      ∙ refused_prints (ltb input_size (length input)) (read_input input).answer (mark_check (read_input input).stored) (length (expansion_of input)) f.number f.line (text (lines (read_input input).stored)) (sym (load-answer input) ∙ f.is)
+  pub refusal_printed : (f : Refusal ℕ) → a ≡ Err f → (text : List Line → List ℕ) → or_refusal (report a) [] ≡ printed text input
+  refusal_printed f q text =
+      ap (λ (r : Report). or_refusal r []) (ap report q)
+      ∙ refused_prints (ltb input_size (length input)) (read_input input).answer (mark_check (read_input input).stored) (length (expansion_of input)) _ _ (text (lines (read_input input).stored)) (sym (load-answer input) ∙ refusal-told q loaded_answer)
       ∙ sym (printed_is text input)
     where
       refused_prints : (long : Bool) (r m : Report) (k j l : ℕ) (t : List ℕ) → cond long (refused 8 0) (and_then r (and_then m (counted k))) ≡ refused j l
@@ -162,7 +151,7 @@ module _ (input store new : List ℕ) (a : Answer) (e : outcome (report a) (new 
       refused_prints false (done vs) (refused i o) k j l t q = ap (λ (x : Report). or_refusal x []) (sym q)
       refused_prints false (done vs) (done ms) k j l t q = absurd (never_counted (sym q))
 
-  pub loaded : (n : ℕ) → a ≡ Count n → Loaded input new n
+  pub loaded : (n : ℕ) → a ≡ Ok n → Loaded input new n
   loaded n c =
       let p : List ℕ = (read_input input).stored in
       let q : load_answer input ≡ counted n = count-told c loaded_answer in
@@ -212,6 +201,6 @@ module _ (input new : List ℕ) (n : ℕ) (l : Loaded input new n) where
       checked_writes (take (line_width * n) new) out (line_count (take (line_width * n) new)) part_check
       ∙ ap (λ (t : List ℕ). fitted t out) (ap (flat_map spell_line) part-lines ∙ sym (l.prints (λ p. flat_map spell_line (expand neighbours p))) ∙ sym (expand_prints_lem input))
 
-pub refusal_of_expansion : (input store new out : List ℕ) (a : Answer) → outcome (report a) (new ∷ []) ≡ load_outcome input store → NoCount a → fitted (or_refusal (report a) []) out ≡ fitted (expand_prints input) out
-refusal_of_expansion input store new out a e h =
-    ap (λ (t : List ℕ). fitted t out) (refusal_printed input store new a e h (λ p. flat_map spell_line (expand neighbours p)) ∙ sym (expand_prints_lem input))
+pub refusal_of_expansion : (input store new out : List ℕ) (a : Result ℕ (Refusal ℕ)) (f : Refusal ℕ) → outcome (report a) (new ∷ []) ≡ load_outcome input store → a ≡ Err f → fitted (or_refusal (report a) []) out ≡ fitted (expand_prints input) out
+refusal_of_expansion input store new out a f e q =
+    ap (λ (t : List ℕ). fitted t out) (refusal_printed input store new a e f q (λ p. flat_map spell_line (expand neighbours p)) ∙ sym (expand_prints_lem input))

@@ -9,7 +9,8 @@ use lib.Dec.{ltb}
 use lib.ListN.{length, take, drop, get_elem?, length-append, length-replicate}
 use lib.Seq.{take_at, drop_at}
 use Rattle.model.specs.Layouts.{neighbours}
-use Rattle.model.specs.declared.Answer.{Answer}
+use Rattle.std.specs.Prelude.{Result, Err}
+use Rattle.model.specs.declared.Refusal.{Refusal}
 use Rattle.model.specs.declared.Line.{Line}
 use Rattle.model.specs.Limits.{line_width, state_size, row_width}
 use Rattle.model.specs.Answers.{Report, done, report, counted, refused, halted, spent, Outcome, outcome, at_front}
@@ -24,7 +25,6 @@ use Rattle.model.proofs.OutcomeLaws.{second_store, run_outcome_lem}
 use Rattle.model.proofs.PlaceLaws.{image-length}
 use Rattle.model.proofs.ZeroImage.{zeros, zero-image}
 use Rattle.model.proofs.Runs.{run-zero, stopped, step_run, row-length, flat}
-use Rattle.model.proofs.CheckAnswers.{NoCount}
 use Rattle.lines.specs.Printing.{rows_from, rows_text, lines_text}
 use Rattle.model.specs.Text.{fitted}
 use Rattle.programs.specs.Loading.{load_outcome}
@@ -108,9 +108,6 @@ module _ (p : List Line) (x : Ran) where
       let w : end_number b ≡ end_number t = cc q in
       record { steps = s; line = ending_is ∙ ap₂ (λ (u : Bool) (n : ℕ). end_word u ++ numbers_text (n ∷ [])) (sym (same_end b t w)) (sym s) }
 
-  never_count : (n : ℕ) → counted n ≡ answer p x → ⊥
-  never_count n e = let q : counted n ≡ done (end_number (ltb x.at (length p)) ∷ x.at ∷ length x.rows ∷ []) = e ∙ answer_is in let z : ◌≡◌ {A = ℕ} 0 1 = cc q in omega arith
-
   never_refused : (k l : ℕ) → refused k l ≡ answer p x → ⊥
   never_refused k l e = let q : refused k l ≡ done (end_number (ltb x.at (length p)) ∷ x.at ∷ length x.rows ∷ []) = e ∙ answer_is in let z : ◌≡◌ {A = ℕ} 0 1 = cc q in omega arith
 
@@ -140,17 +137,17 @@ run_text_lem : (p : List ℕ) → run_text p ≡ line_run (lines p)
 unfolding run_text
 run_text_lem p = refl
 
-module _ (p state state' t new : List ℕ) (a : Answer) (r : Report) (ok : program_check p ≡ counted (line_count p)) (made : outcome r (state ∷ []) ≡ to_image_outcome 0 0 zeros zeros) (room : length t ≡ row_width * trace_budget) (e : outcome (report a) (state' ∷ new ∷ []) ≡ run_outcome p 0 trace_budget state t) where
+module _ (p state state' t new : List ℕ) (a r : Report) (ok : program_check p ≡ counted (line_count p)) (made : outcome r (state ∷ []) ≡ to_image_outcome 0 0 zeros zeros) (room : length t ≡ row_width * trace_budget) (e : outcome (a) (state' ∷ new ∷ []) ≡ run_outcome p 0 trace_budget state t) where
   abbrev ran : Ran
   ran = run (lines p) trace_budget 0 (image neighbours zeros)
 
-  leaves : outcome (report a) (state' ∷ new ∷ []) ≡ outcome (answer (lines p) ran) (ran.state ∷ at_front (flat ran.rows) t ∷ [])
+  leaves : outcome (a) (state' ∷ new ∷ []) ≡ outcome (answer (lines p) ran) (ran.state ∷ at_front (flat ran.rows) t ∷ [])
   leaves =
       let s : state ≡ image neighbours zeros = zero-image state r made in
       let h : length (image neighbours zeros) ≡ state_size = image-length neighbours zeros ∙ length-replicate {A = ℕ} state_size 0 in
       e ∙ ap (λ (v : State). run_outcome p 0 trace_budget v t) s ∙ run_outcome_lem p 0 trace_budget (line_count p) (image neighbours zeros) t ok h (omega arith) ∙ run_leaves_lem (lines p) ran t
 
-  pub answered : report a ≡ answer (lines p) ran
+  pub answered : a ≡ answer (lines p) ran
   answered = ap (λ (o : Outcome). o.answer) leaves
 
   trace_is : new ≡ at_front (flat ran.rows) t
@@ -170,10 +167,7 @@ module _ (p state state' t new : List ℕ) (a : Answer) (r : Report) (ok : progr
         ∙ ap₂ (λ (x y : List ℕ). x ++ y) (flat_text ran.rows (run_whole (lines p) trace_budget 0 (image neighbours zeros) 0)) (sym d.line)
         ∙ sym (trace_text_lem (lines p) ran) ∙ sym (run_text_lem p)
 
-  pub never_counts : (n : ℕ) → report a ≡ counted n → ⊥
-  never_counts n q = never_count (lines p) ran n (sym q ∙ answered)
-
-  pub never_refuses : (k l : ℕ) → report a ≡ refused k l → ⊥
+  pub never_refuses : (k l : ℕ) → a ≡ refused k l → ⊥
   never_refuses k l q = never_refused (lines p) ran k l (sym q ∙ answered)
 
 -- ---- what the second program prints
@@ -186,6 +180,6 @@ pub loaded_run : (input new : List ℕ) (n : ℕ) → Loaded input new n → run
 loaded_run input new n l =
     run_text_lem (take (line_width * n) new) ∙ ap line_run (part-lines input new n l) ∙ sym (l.prints (λ p. line_run (expand neighbours p))) ∙ sym (trace_prints_lem input)
 
-pub refusal_of_trace : (input store new out : List ℕ) (a : Answer) → outcome (report a) (new ∷ []) ≡ load_outcome input store → NoCount a → fitted (or_refusal (report a) []) out ≡ fitted (trace_prints input) out
-refusal_of_trace input store new out a e h =
-    ap (λ (t : List ℕ). fitted t out) (refusal_printed input store new a e h (λ p. line_run (expand neighbours p)) ∙ sym (trace_prints_lem input))
+pub refusal_of_trace : (input store new out : List ℕ) (a : Result ℕ (Refusal ℕ)) (f : Refusal ℕ) → outcome (report a) (new ∷ []) ≡ load_outcome input store → a ≡ Err f → fitted (or_refusal (report a) []) out ≡ fitted (trace_prints input) out
+refusal_of_trace input store new out a f e q =
+    ap (λ (t : List ℕ). fitted t out) (refusal_printed input store new a e f q (λ p. line_run (expand neighbours p)) ∙ sym (trace_prints_lem input))

@@ -13,8 +13,9 @@ ghost use Rattle.programs.specs.Loading.{load_outcome, most_numbers};
 ghost use Rattle.programs.specs.Running.{run_text, ended_text};
 
 use lines::reader::read_lines;
+use lines::shared::room;
 use lines::{write_lines, write_refusal};
-use model::{Answer, LINE_WIDTH, LONGEST, MAX_ACCEPTED, ROW_WIDTH, STATE_SIZE};
+use model::{Condition, Ending, LINE_WIDTH, LONGEST, MAX_ACCEPTED, ROW_WIDTH, Refusal, STATE_SIZE};
 
 // The most bytes of an input.
 pub const INPUT_SIZE: usize = 4096;
@@ -37,90 +38,71 @@ const LISTING_ROOM: usize = LINE_WIDTH * LONGEST * MAX_ACCEPTED;
 // Room for the rows of every run.
 const TRACE_ROOM: usize = ROW_WIDTH * (TRACE_BUDGET as usize);
 
-fn store_room() -> [u16; STORE_ROOM]
-    ensures { length result ≡ line_width * input_size }
-{
-    [0u16; STORE_ROOM]
-}
-
-fn listing_room() -> [u16; LISTING_ROOM]
-    ensures { length result ≡ most_numbers }
-{
-    [0u16; LISTING_ROOM]
-}
-
-fn trace_room() -> [u16; TRACE_ROOM]
-    ensures { length result ≡ row_width * trace_budget }
-{
-    [0u16; TRACE_ROOM]
-}
-
 // Reads the text of a program and expands it.
-fn load(input: &[u8], listing: &mut [u16]) -> Answer
+fn load(input: &[u8], listing: &mut [u16]) -> Result<u32, Refusal>
     requires { most_numbers ≤ length listing.old }
     ensures { outcome (report result) (listing.new ∷ []) ≡ load_outcome input.now listing.old }
 {
     if INPUT_SIZE < input.len() {
-        return Answer::Refused { number: 8, line: 0 };
+        return Err(Refusal {
+            condition: Condition::StoreFull,
+            line: 0,
+        });
     }
-    let mut store = store_room();
-    let got = read_lines(input, &mut store);
-    let Answer::Count(n) = got else {
-        return got;
-    };
+    let mut store = room::<STORE_ROOM>();
+    let n = read_lines(input, &mut store)?;
     let end = LINE_WIDTH * (n as usize);
     expander::expand(0, 0, &store[..end], listing)
 }
 
 // Writes the rows of the steps done, and the line of the ending.
-fn write_ended(trace: &[u16], word: &[u8], steps: u16, out: &mut [u8]) -> Answer
+fn write_ended(trace: &[u16], word: &[u8], steps: u16, out: &mut [u8]) -> Result<u32, Refusal>
     requires { (length trace.now ≤ row_width * trace_budget) × (row_width * steps ≤ length trace.now) × (length word.now ≤ 7) }
     ensures { outcome (report result) (out.new ∷ []) ≡ fitted (ended_text trace.now word.now steps) out.old }
 {
-    let last = [steps];
     let end = ROW_WIDTH * (steps as usize);
-    write_lines(&trace[..end], word, &last, out)
+    write_lines(&trace[..end], word, &[steps], out)
 }
 
 // Runs a program from the image of the all-zero state, and writes its trace.
-fn write_run(program: &[u16], out: &mut [u8]) -> Answer
+fn write_run(program: &[u16], out: &mut [u8]) -> Result<u32, Refusal>
     requires { program_check program.now ≡ counted (line_count program.now) }
     ensures { outcome (report result) (out.new ∷ []) ≡ fitted (run_text program.now) out.old }
 {
     let bits = [0u8; STATE_SIZE];
     let mut state = [0u8; STATE_SIZE];
-    images::to_image(0, 0, &bits, &mut state);
-    let mut trace = trace_room();
-    let ran = machine::run(program, 0, TRACE_BUDGET, &mut state, &mut trace);
-    match ran {
-        Answer::Halted { counter: _, steps } => write_ended(&trace, b"halted,", steps, out),
-        Answer::Spent { counter: _, steps } => write_ended(&trace, b"spent,", steps, out),
-        // A run with room for its trace ends in one of the two.
-        Answer::Count(_) => ran,
-        Answer::Refused { number: _, line: _ } => ran,
+    // The all-zero state has an image: nothing is refused.
+    let _ = images::to_image(0, 0, &bits, &mut state);
+    let mut trace = room::<TRACE_ROOM>();
+    // A run with room for its trace is not refused.
+    let ending = machine::run(program, 0, TRACE_BUDGET, &mut state, &mut trace)?;
+    match ending {
+        Ending::Halted { counter: _, steps } => write_ended(&trace, b"halted,", steps, out),
+        Ending::Spent { counter: _, steps } => write_ended(&trace, b"spent,", steps, out),
     }
 }
 
 // The text of the expansion, or of a refusal.
-pub fn print_expansion(input: &[u8], out: &mut [u8]) -> Answer
+pub fn print_expansion(input: &[u8], out: &mut [u8]) -> Result<u32, Refusal>
     ensures { outcome (report result) (out.new ∷ []) ≡ fitted (expand_prints input.now) out.old }
 {
-    let mut listing = listing_room();
+    let mut listing = room::<LISTING_ROOM>();
     let loaded = load(input, &mut listing);
-    let Answer::Count(n) = loaded else {
+    let Ok(n) = loaded else {
         return write_refusal(loaded, out);
     };
     let end = LINE_WIDTH * (n as usize);
     printing::write(&listing[..end], out)
 }
 
-// The text of the trace, or of a refusal.
-pub fn print_trace(input: &[u8], out: &mut [u8]) -> Answer
+// The text of the trace, or of a refusal. It is not one function with the above: they differ in what they call and in what that asks for, so that a
+// generic one would have a contract longer than both bodies.
+pub fn print_trace(input: &[u8], out: &mut [u8]) -> Result<u32, Refusal>
     ensures { outcome (report result) (out.new ∷ []) ≡ fitted (trace_prints input.now) out.old }
 {
-    let mut listing = listing_room();
+    let mut listing = room::<LISTING_ROOM>();
     let loaded = load(input, &mut listing);
-    let Answer::Count(n) = loaded else {
+    let Ok(n) = loaded else {
         return write_refusal(loaded, out);
     };
     let end = LINE_WIDTH * (n as usize);

@@ -9,7 +9,6 @@ use lib.ListN.{length, get_or, take, drop}
 use lib.Dec.{ltb, eqb}
 use borrow.Author.Tests.{eq-eqb, ne_eqb, eqb-true, lt-ltb}
 use Rattle.model.specs.Text.{newline, up_to}
-use Rattle.published.specs.declared.taking.Tally.{Tally}
 use Rattle.published.specs.Published.{max_labels, words, TextLine, text_lines, bit, labelled, label_name, is_counted, Label, is_within, labels_after, label_wrong, Seen, none_seen, after, seen_from}
 use Rattle.published.specs.Reading.{trimmed, code_of, body_of, label_size}
 use Rattle.published.specs.Table.{buckets, entry_width, entries, last_in, Linked, Added}
@@ -68,9 +67,9 @@ pub record Walked (text heads table : List ℕ) (at i m n clean : ℕ) : Type 0 
   pub behind : clean ≤ i
   pub clear : cond (eqb clean i) (i + clean_from (seen_in text table m n) (text_lines (drop at text))) clean ≡ clean_from none_seen (text_lines text)
 
-pub walked_none : (text heads table : List ℕ) → Linked text heads table 0 → Walked text heads table 0 0 0 0 0
+pub walked_none : (text heads table : List ℕ) (m : ℕ) → m ≡ 0 → Linked text heads table m → Walked text heads table 0 0 m 0 0
 unfolding entries
-walked_none text heads table L = record { linked = L; lines = omega arith; low = omega arith; near = omega arith; left = refl; behind = omega arith; clear = zero-add _ }
+walked_none text heads table m z L = let M = rw z at L in rw z (record { linked = M; lines = omega arith; low = omega arith; near = omega arith; left = refl; behind = omega arith; clear = zero-add _ })
 
 clear_more : (clean i x total : ℕ) (wrong : Bool) → clean ≤ i → cond (eqb clean i) (i + cond wrong 0 (suc x)) clean ≡ total
     → cond (eqb (cond (eqb clean i && not wrong) (i + 1) clean) (i + 1)) (i + 1 + x) (cond (eqb clean i && not wrong) (i + 1) clean) ≡ total
@@ -128,15 +127,15 @@ module _ (text heads table : List ℕ) (at i m n clean : ℕ) (W : Walked text h
       }
 
 module _ (text heads table : List ℕ) (at i m n clean : ℕ) (W : Walked text heads table at i m n clean) (h : length text ≤ at) where
-  pub walked_all : (r : Tally) → r.labels ≡ m → r.clean ≡ clean → Collected text heads table r
-  walked_all r e f =
+  pub walked_all : Collected text heads table m clean
+  walked_all =
       let z = lines_end text at h in
       record {
-        linked = rw e W.linked;
+        linked = W.linked;
         count = n;
-        seen = rw e (sym (seen-nil (seen_in text table m n)) ∙ ap (seen_from (seen_in text table m n)) (sym z) ∙ W.left);
-        clean =
-            f ∙ sym (same (eqb clean i) refl)
+        seen = sym (seen-nil (seen_in text table m n)) ∙ ap (seen_from (seen_in text table m n)) (sym z) ∙ W.left;
+        first_wrong =
+            sym (same (eqb clean i) refl)
             ∙ ap (λ (x : ℕ). cond (eqb clean i) (i + x) clean) (sym (ap (clean_from (seen_in text table m n)) z ∙ clean_nil (seen_in text table m n)))
             ∙ W.clear;
       }

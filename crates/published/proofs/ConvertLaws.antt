@@ -10,19 +10,20 @@ use lib.Seq.{sets, length-sets}
 use lib.Dec.{ltb, eqb}
 use borrow.Author.Tests.{eq-eqb, ne_eqb}
 use Rattle.model.specs.Limits.{line_width, max_accepted}
-use Rattle.model.specs.Answers.{counted, refused}
+use Rattle.model.specs.Answers.{number_or_0, report, counted, refused}
 use Rattle.model.specs.Stored.{Parsed, numbers, wrong, fault}
 use Rattle.model.specs.Text.{newline, up_to}
 use Rattle.model.proofs.StoredLaws.{never_counted}
 use Rattle.text.specs.Lines.{kept}
 use Rattle.model.proofs.Overwrites.{sets_append}
 use Rattle.text.proofs.StoreLaws.{kept_fits}
-use Rattle.published.specs.declared.Converted.{Converted}
-use Rattle.published.specs.declared.taking.Tally.{Tally}
+use Rattle.std.specs.Prelude.{Result, Ok, Err}
+use Rattle.model.specs.declared.Refusal.{Refusal}
 use Rattle.published.specs.declared.instructions.Instruction.{Instruction}
-use Rattle.published.specs.declared.instructions.Read.{Read}
-use Rattle.published.specs.declared.instructions.Read.TheVariants.{Line, Refused}
-use Rattle.published.specs.Published.{words, TextLine, text_lines, bit, instruction, is_counted, Label, label_wrong, Seen, none_seen, after, seen_from, instruction_parsed, parsed_line, holds24, holds25, line_fault, first_fault, take_in_check, conversion}
+use Rattle.std.specs.Prelude.{Option as Broken}
+use Rattle.std.specs.Result.{result_err}
+use Rattle.model.specs.declared.Condition.{Condition}
+use Rattle.published.specs.Published.{words, TextLine, text_lines, bit, instruction, is_counted, Label, label_wrong, Seen, none_seen, after, seen_from, instruction_parsed, parsed_line, holds24, holds25, line_fault, first_fault, take_in_check}
 use Rattle.published.specs.Reading.{trimmed, code_of, body_of}
 use Rattle.published.specs.Table.{entries, Low}
 use Rattle.published.specs.Passes.{target_number, meaning, clean_from, fault_by, kept_of, kept_lines, Collected, Kept, Converts}
@@ -32,10 +33,15 @@ use Rattle.published.proofs.TextLaws.{front_of, front_at, instruction_is, code-t
 
 -- ---- one instruction stored
 
-pub kept_none : (old : List ℕ) (n : ℕ) (r : Read) (k : ℕ) → r ≡ Refused k → Kept old old n n (kept_of (meaning r))
+-- the condition that an instruction breaks is the fault of what it means
+pub broken-fault : (r : Result Instruction Condition) (o : Broken Condition) → o ≡ result_err r → number_or_0 o ≡ fault (meaning r)
+broken-fault (Ok l) o e = rw e
+broken-fault (Err c) o e = rw e
+
+pub kept_none : (old : List ℕ) (n : ℕ) (r : Result Instruction Condition) (k : Condition) → r ≡ Err k → Kept old old n n (kept_of (meaning r))
 kept_none old n r k e = rw e (record { bytes = refl; after = omega arith })
 
-pub kept_some : (old new : List ℕ) (n : ℕ) (r : Read) (l : Instruction) (t : ℕ) → r ≡ Line l → t ≡ target_number l.aimed l.target % 65536
+pub kept_some : (old new : List ℕ) (n : ℕ) (r : Result Instruction Condition) (l : Instruction) (t : ℕ) → r ≡ Ok l → t ≡ target_number l.target % 65536
     → new ≡ kept old n (l.mark ∷ l.opcode ∷ l.destination ∷ l.first ∷ l.second ∷ t ∷ []) → line_width * n + length (kept_of (meaning r)) ≤ length old → Kept old new n (n + 1) (kept_of (meaning r))
 kept_some old new n r l t e q p h =
     let six : length (kept_of (meaning r)) ≡ 6 = rw e in
@@ -157,7 +163,7 @@ module _ (text : List ℕ) where
           }
 
   module _ (old store : List ℕ) (at i n clean : ℕ) (C : Converting old store at i n clean) where
-    pub converts : length text ≤ at → (r : Converted) → conversion r ≡ counted n → Converts text old store r
+    pub converts : length text ≤ at → (r : Result ℕ (Refusal ℕ)) → report r ≡ counted n → Converts text old store r
     unfolding take_in_check
     converts h r e =
         let z = lines_end text at h in
@@ -166,7 +172,7 @@ module _ (text : List ℕ) where
           stored = λ k q. ap (sets store (line_width * n)) (sym (ap (kept_lines all) z ∙ kept-nil all)) ∙ C.stored;
         }
 
-    pub refused_converts : (r : Converted) (k : ℕ) → conversion r ≡ refused k i → refused k i ≡ take_in_check text → Converts text old store r
+    pub refused_converts : (r : Result ℕ (Refusal ℕ)) (k : ℕ) → report r ≡ refused k i → refused k i ≡ take_in_check text → Converts text old store r
     refused_converts r k e q = record { answer = e ∙ q; stored = λ j p. absurd (never_counted (sym e ∙ p)) }
 
 -- what was read with the labels of the table
@@ -176,12 +182,12 @@ pub read_told : (text table : List ℕ) (m : ℕ) (code b : List ℕ) (x : Parse
 read_told text table m code b x l p e = e ∙ ap₂ (λ (ls : List Label) (y : List ℕ). instruction_parsed (seen_from none_seen (text_lines text)).count ls (words y)) (sym l) p
 
 -- what the first pass found is what is seen of the whole text
-module _ (text heads table : List ℕ) (r : Tally) (C : Collected text heads table r) where
+module _ (text heads table : List ℕ) (labels clean : ℕ) (C : Collected text heads table labels clean) where
   pub all_counted : (seen_from none_seen (text_lines text)).count ≡ C.count
   all_counted = ap (λ (s : Seen). s.count) (sym C.seen)
 
-  pub all_labels : (seen_from none_seen (text_lines text)).labels ≡ entries text table r.labels
+  pub all_labels : (seen_from none_seen (text_lines text)).labels ≡ entries text table labels
   all_labels = ap (λ (s : Seen). s.labels) (sym C.seen)
 
-  pub low_labels : Low (seen_from none_seen (text_lines text)).count (entries text table r.labels)
+  pub low_labels : Low (seen_from none_seen (text_lines text)).count (entries text table labels)
   low_labels = subst (Low (seen_from none_seen (text_lines text)).count) all_labels (low-seen none_seen (text_lines text) tt)

@@ -9,8 +9,8 @@ use lib.Seq.{take_at}
 use native.Mathlib.Nat.{zero-add}
 use lib.Dec.{eqb}
 use borrow.Author.Tests.{eq-eqb, ne_eqb, lt-leb, lt-ltb}
-use Rattle.model.specs.declared.Answer.{Answer}
-use Rattle.model.specs.declared.Answer.TheVariants.{Count}
+use Rattle.std.specs.Prelude.{Result, Ok, Err}
+use Rattle.model.specs.declared.Refusal.{Refusal}
 use Rattle.model.specs.declared.Line.{Line}
 use Rattle.model.specs.Limits.{line_width, max_accepted, max_lines}
 use Rattle.model.specs.Lines.{AllCorrect}
@@ -19,7 +19,7 @@ use Rattle.model.specs.Stored.{codes, Parsed, numbers, wrong, lines, program_che
 use Rattle.model.specs.Text.{newline, spell_line, past, front_line, Reading, then_reads, reading, read_outcome}
 use Rattle.model.specs.Marks.{marks_of, mark_check}
 use Rattle.model.proofs.StoredLaws.{never_counted, codes-length, whole_lines, whole_check}
-use Rattle.model.proofs.CheckAnswers.{CountOrRefusal, counts, refuses, reading_answers, NoCount, Refusal, no_count_refuses, refusal_leaves}
+use Rattle.model.proofs.CheckAnswers.{CountOrRefusal, counts, refuses, reading_answers, refusal, refusal-told}
 use Rattle.model.proofs.RoundTrip.{reading-zero, reading_suc, read_outcome_lem, reads-back, reads_lines, written_read}
 use Rattle.model.proofs.TestLaws.{below}
 use Rattle.printing.proofs.PrintLaws.{one_less}
@@ -91,42 +91,43 @@ module _ (text : List ℕ) (u : Unread text) where
   unfolding send_out_check
   refuse_many k e = sym (ap (λ (r : Report). and_then r (mark_check (read_text text).stored)) e ∙ many_lines text k u e)
 
-pub read_refused : (text : List ℕ) (a : Answer) → NoCount a → report a ≡ (read_text text).answer → Refusal (read_text text).answer
-unfolding read_text
-read_refused text a h e = no_count_refuses a h (reading_answers max_lines 0 max_lines text) e
+pub read_refused : (text : List ℕ) (a : Result ℕ (Refusal ℕ)) (f : Refusal ℕ) → a ≡ Err f → report a ≡ (read_text text).answer → (read_text text).answer ≡ refusal f
+read_refused text a f q e = refusal-told q e
 
 -- a text that reading answers without a count is not read whole
 room_for : (store : List ℕ) → length store ≡ line_width * max_accepted → length store / line_width ≡ max_accepted
 room_for store l = ap (λ (k : ℕ). k / line_width) l
 
-never_count : (a : Answer) (n : ℕ) → NoCount a → report a ≡ counted n → ⊥
-never_count a n h e = never_counted (sym (no_count_refuses a h (counts n refl) e).is)
-
-module _ (text store new : List ℕ) (a : Answer) (l : length store ≡ line_width * max_accepted) (e : outcome (report a) (new ∷ []) ≡ read_outcome text store) where
+module _ (text store new : List ℕ) (a : Result ℕ (Refusal ℕ)) (l : length store ≡ line_width * max_accepted) (e : outcome (report a) (new ∷ []) ≡ read_outcome text store) where
   read_answer : report a ≡ (reading max_lines 0 max_accepted text).answer
   read_answer = ap (λ (o : Outcome). o.answer) (e ∙ read_outcome_lem text store) ∙ ap (λ (k : ℕ). (reading max_lines 0 k text).answer) (room_for store l)
 
-  pub not_read : NoCount a → Unread text
-  not_read h n q = never_count a n h (read_answer ∙ q)
+  pub not_read : (f : Refusal ℕ) → a ≡ Err f → Unread text
+  not_read f d n q = never_counted (sym (ap report d) ∙ read_answer ∙ q)
 
 -- it is refused
-pub unread_refused : (text : List ℕ) → Unread text → Refusal (send_out_check text)
+pub record Turned (r : Report) : Type 0 where
+  pub number : ℕ
+  pub line : ℕ
+  pub is : r ≡ refused number line
+
+pub unread_refused : (text : List ℕ) → Unread text → Turned (send_out_check text)
 unfolding read_text
 unread_refused text u = by (reading_answers max_lines 0 max_lines text)
   where
-    by : CountOrRefusal (read_text text).answer → Refusal (send_out_check text)
+    by : CountOrRefusal (read_text text).answer → Turned (send_out_check text)
     by (counts k e) = record { number = 9; line = 0; is = sym (refuse_many text u k e) }
     by (refuses k i e) = record { number = k; line = i; is = sym (refuse_wrong text u k i (refused k i) e refl) }
 
 pub send_refused : (text out : List ℕ) (x : Report) → Unread text → x ≡ send_out_check text → outcome x (out ∷ []) ≡ send_out_outcome text out
 unfolding send_out_outcome
-send_refused text out x u e = rw e (refusal_leaves (unread_refused text u) (out ∷ []) _)
+send_refused text out x u e = let t = unread_refused text u in rw e (rw t.is)
 
 -- ---- a text that is read into a store of 1,024 lines is read alike with room for every line
 
-module _ (text store new : List ℕ) (a : Answer) (n : ℕ) (c : a ≡ Count n) (w : outcome (report a) (new ∷ []) ≡ read_outcome text store) where
+module _ (text store new : List ℕ) (a : Result ℕ (Refusal ℕ)) (n : ℕ) (c : a ≡ Ok n) (w : outcome (report a) (new ∷ []) ≡ read_outcome text store) where
   e : outcome (counted n) (new ∷ []) ≡ read_outcome text store
-  e = ap (λ (x : Answer). outcome (report x) (new ∷ [])) (sym c) ∙ w
+  e = ap (λ (x : Result ℕ (Refusal ℕ)). outcome (report x) (new ∷ [])) (sym c) ∙ w
 
   pub store_front : line_width * n ≤ length new
   store_front = (written_read text store n new (sym e)).long

@@ -20,8 +20,8 @@ use Rattle.model.proofs.StoredLaws.{operand_back, operand_there}
 use Rattle.model.proofs.DecimalLaws.{decimal_digits}
 use Rattle.model.proofs.CutLaws.{count-append, count_other, count_it, digits_clean, up_to_clean, past_clean, rejoin, up_to_all}
 use Rattle.model.proofs.SpellingLaws.{spelled_is}
-use Rattle.text.specs.declared.Field.{Field}
-use Rattle.text.specs.declared.Field.TheVariants.{Is, Wrong}
+use Rattle.std.specs.Prelude.{Option as Field, Some, None}
+use Rattle.std.specs.Prelude.{Some, None}
 use Rattle.text.specs.Fields.{found, read_number, shift, read_direct}
 use Rattle.text.proofs.DigitLaws.{never, number_below, number_decimal, decimal_number}
 use Rattle.text.proofs.OperandLaws.{filled, cond_is, found_is, direct_below, direct_spelled}
@@ -33,8 +33,8 @@ use Rattle.published.proofs.OperandSpelling.{Spelled, number_spelled, spelled_nu
 abbrev bare : List ℕ → Bool
 bare s = eqb (get_or s 0 0) 33 && eqb (count_of comma s) 0
 
-unfoldable read_exact : List ℕ → Field
-read_exact s = cond (bare s) Wrong (read_part s)
+unfoldable read_exact : List ℕ → Field ℕ
+read_exact s = cond (bare s) None (read_part s)
 
 -- ---- spelled, then read
 
@@ -59,11 +59,11 @@ based_read r k hr hk =
     ∙ based_cut (decimal r) (decimal k) (digits_clean comma (decimal r) (omega arith) (decimal_digits r))
     ∙ ap₂ pointed (number_decimal 32 r hr (omega arith)) (number_decimal 256 k hk (omega arith))
 
-none_read : read_exact [] ≡ Is 0
+none_read : read_exact [] ≡ Some 0
 unfolding read_exact read_part
 none_read = refl
 
-spelled_read : (must : Bool) (op : Operand) → T (operand_right must op) → Spelled op → read_exact (spell_published op) ≡ Is (operand_code op)
+spelled_read : (must : Bool) (op : Operand) → T (operand_right must op) → Spelled op → read_exact (spell_published op) ≡ Some (operand_code op)
 unfolding operand_right spell_published read_direct shift
 spelled_read must Empty h c = none_read
 spelled_read must (Literal n) h c =
@@ -99,18 +99,18 @@ record Shown (s : List ℕ) (k : ℕ) : Type 0 where
   number : k ≡ operand_code op
   text : spell_published op ≡ s
 
-data Pointed (x y : Field) (k : ℕ) : Type 0 where
-  by_point : (b o : ℕ) → x ≡ Is b → y ≡ Is o → pointed_at b o ≡ Is k → Pointed x y k
+data Pointed (x y : Field ℕ) (k : ℕ) : Type 0 where
+  by_point : (b o : ℕ) → x ≡ Some b → y ≡ Some o → pointed_at b o ≡ Some k → Pointed x y k
 
-point_back : (x y : Field) (k : ℕ) → pointed x y ≡ Is k → Pointed x y k
-point_back (Is b) (Is o) k e = by_point b o refl refl e
-point_back (Is b) Wrong k e = absurd (never e)
-point_back Wrong y k e = absurd (never e)
+point_back : (x y : Field ℕ) (k : ℕ) → pointed x y ≡ Some k → Pointed x y k
+point_back (Some b) (Some o) k e = by_point b o refl refl e
+point_back (Some b) None k e = absurd (never e)
+point_back None y k e = absurd (never e)
 
-is_same : {j k : ℕ} → Is j ≡ Is k → j ≡ k
+is_same : {j k : ℕ} → Some j ≡ Some k → j ≡ k
 is_same e = cc
 
-cell_of_lem : (b o k : ℕ) → b < 32 → o < 256 → pointed_at b o ≡ Is k → Shown (based b o) k
+cell_of_lem : (b o k : ℕ) → b < 32 → o < 256 → pointed_at b o ≡ Some k → Shown (based b o) k
 unfolding operand_right spell_published
 cell_of_lem b o k hb ho e =
     below o 128
@@ -120,7 +120,7 @@ cell_of_lem b o k hb ho e =
     let z : 128 + (o - 128) ≡ o = omega arith in
     record { op = SensitiveCell b (o - 128); right = both_and (ltb b 32) (ltb (o - 128) 128) (lt→ltb b 32 hb) (lt→ltb (o - 128) 128 (omega arith)); counterpart = tt; number = omega arith; text = ap (based b) z })
 
-cond_not : (t : Bool) (x : Field) (k : ℕ) → cond t Wrong x ≡ Is k → (t ≡ false) × (x ≡ Is k)
+cond_not : (t : Bool) (x : Field ℕ) (k : ℕ) → cond t None x ≡ Some k → (t ≡ false) × (x ≡ Some k)
 cond_not true x k e = absurd (never e)
 cond_not false x k e = (refl, e)
 
@@ -133,7 +133,7 @@ split_back v k hc (by_point b o p q e) =
     let t : decimal b ++ (comma ∷ decimal o) ≡ v = ap₂ (λ (x y : List ℕ). x ++ (comma ∷ y)) base offset ∙ sym (rejoin comma v hc) in
     record { op = s.op; right = s.right; counterpart = s.counterpart; number = s.number; text = s.text ∙ ap (λ (x : List ℕ). 33 ∷ 114 ∷ x) t }
 
-based-back : (u : List ℕ) (k : ℕ) → 0 < count_of comma (33 ∷ u) → read_based u ≡ Is k → Shown (33 ∷ u) k
+based-back : (u : List ℕ) (k : ℕ) → 0 < count_of comma (33 ∷ u) → read_based u ≡ Some k → Shown (33 ∷ u) k
 unfolding read_based
 based-back [] k h e = absurd (never e)
 based-back (c ∷ v) k h e =
@@ -153,13 +153,13 @@ shown_said s k o = (
   ap (λ (n : ℕ). spell_published (operand_of n)) o.number ∙ ap spell_published (operand_there true o.op o.right).same ∙ o.text,
 )
 
-direct_said : (c : ℕ) (t : List ℕ) (k : ℕ) → read_direct c t ≡ Is k → Said (c ∷ t) k
+direct_said : (c : ℕ) (t : List ℕ) (k : ℕ) → read_direct c t ≡ Some k → Said (c ∷ t) k
 direct_said c t k e = let l = direct_below c t k e in (omega arith, sym (spelled_alike k l) ∙ direct_spelled c t k e)
 
-form_back : (c : ℕ) (t : List ℕ) (k : ℕ) → bare (c ∷ t) ≡ false → cond (eqb c 33) (read_based t) (read_direct c t) ≡ Is k → Said (c ∷ t) k
+form_back : (c : ℕ) (t : List ℕ) (k : ℕ) → bare (c ∷ t) ≡ false → cond (eqb c 33) (read_based t) (read_direct c t) ≡ Some k → Said (c ∷ t) k
 form_back c t k h = by (eqb c 33) refl
   where
-    by : (b : Bool) → eqb c 33 ≡ b → cond b (read_based t) (read_direct c t) ≡ Is k → Said (c ∷ t) k
+    by : (b : Bool) → eqb c 33 ≡ b → cond b (read_based t) (read_direct c t) ≡ Some k → Said (c ∷ t) k
     by true a e =
         let z : c ≡ 33 = eqb-true c 33 a in
         let g : eqb (count_of comma (33 ∷ t)) 0 ≡ false = rw z at h in
@@ -171,7 +171,7 @@ zero_spelled : spell_published (operand_of 0) ≡ []
 unfolding spell_published operand_of
 zero_spelled = refl
 
-back : (s : List ℕ) (k : ℕ) → read_exact s ≡ Is k → Said s k
+back : (s : List ℕ) (k : ℕ) → read_exact s ≡ Some k → Said s k
 unfolding read_exact read_part
 back [] k e = let z : k ≡ 0 = sym (is_same e) in (omega arith, ap (λ (n : ℕ). spell_published (operand_of n)) z ∙ zero_spelled)
 back (c ∷ t) k e = let w = cond_not (bare (c ∷ t)) _ k e in form_back c t k w.0 (rw (filled c t) at w.1)
@@ -182,7 +182,7 @@ exactly : (s : List ℕ) (k : ℕ) → (found (read_exact s) ≡ some k) ↔ Sai
 exactly s k = (
   λ e. back s k (found_is (read_exact s) k e),
   λ h. let l : k < tables = h.0 in
-      ap found (ap read_exact (sym h.1) ∙ spelled_read (ltb 0 k) (operand_of k) (operand_back k (omega arith)) (number_spelled k l) ∙ ap Is (operand_number k)),
+      ap found (ap read_exact (sym h.1) ∙ spelled_read (ltb 0 k) (operand_of k) (operand_back k (omega arith)) (number_spelled k l) ∙ ap Some (operand_number k)),
 )
 
 searched : (s : List ℕ) → spelled_from (λ n. spell_published (operand_of n)) 0 tables s ≡ found (read_exact s)
@@ -194,7 +194,7 @@ unfolding published_number
 published_there must op h c = searched (with_offset (spell_published op)) ∙ ap (λ (s : List ℕ). found (read_exact s)) (kept_offset op) ∙ ap found (spelled_read must op h c)
 
 -- the offset of a part is written where it is missing
-zero_number : read_number 256 (48 ∷ []) ≡ Is 0
+zero_number : read_number 256 (48 ∷ []) ≡ Some 0
 unfolding read_number
 zero_number = refl
 

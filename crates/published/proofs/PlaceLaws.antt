@@ -1,14 +1,15 @@
 -- The lines of a text by the places where they begin. Assumes nothing.
-use Prim.Native.Nat.{ℕ, zero, suc, ◌+◌, ◌-◌, ◌≤◌, ◌<◌}
-use mathlib.Core.Bool.{Bool, true, false, cond}
+use Prim.Native.Nat.{ℕ, zero, suc, ◌+◌, ◌-◌, ◌<◌}
+use mathlib.Core.Bool.{Bool, true, false, cond, ◌||◌}
 use mathlib.Core.Path.{◌≡◌, refl, sym, ap, ap₂, ◌∙◌}
 use mathlib.Core.List.{List, [], ◌∷◌}
 use native.Mathlib.Omega.{arith}
-use lib.ListN.{length, get_or, take, drop, drop_of_length-le}
-use native.Mathlib.Numerals.{add-one}
+use lib.ListN.{length, get_or, take, drop}
 use native.Mathlib.Nat.{zero-add}
-use lib.Seq.{take-nil, drop-drop, drop-cons, get_or-take}
+use lib.Seq.{take-nil, drop-drop, get_or-take}
 use lib.Dec.{eqb}
+use Rattle.std.specs.List.{position_or_len}
+use Rattle.std.proofs.lemmas.List.Recursion.{is_position_or_len}
 use borrow.Author.Tests.{eq-eqb, ne_eqb, eqb-true, eqb-false}
 use Rattle.model.specs.Text.{newline, up_to}
 use Rattle.text.proofs.PartLaws.{rest_all}
@@ -27,7 +28,18 @@ drop-take (suc k) zero l = let z : 0 - suc k ≡ 0 = omega arith in ap (λ (j : 
 drop-take (suc k) (suc n) [] = sym (take-nil (suc n - suc k))
 drop-take (suc k) (suc n) (b ∷ l) = let z : n - k ≡ suc n - suc k = omega arith in drop-take k n l ∙ ap (λ (j : ℕ). take j (drop k l)) z
 
--- ---- what stands before a comment and the line's end, at a position
+-- ---- what stands before a comment and the line's end
+
+pub code_first : (s : List ℕ) → length (uncommented s) ≡ position_or_len (λ b. eqb b semicolon || eqb b newline) s
+unfolding uncommented up_to
+code_first = is_position_or_len (λ s. length (uncommented s)) (λ b. eqb b semicolon || eqb b newline) refl (λ b s. by b s (eqb b newline) (eqb b semicolon) refl)
+  where
+    by : (b : ℕ) (s : List ℕ) (end comment : Bool) → eqb b semicolon ≡ comment
+        → length (up_to semicolon (cond end [] (b ∷ up_to newline s))) ≡ cond (comment || end) 0 (1 + length (up_to semicolon (up_to newline s)))
+    by b s true true q = refl
+    by b s true false q = refl
+    by b s false true q = rw q
+    by b s false false q = rw q (omega arith)
 
 code_stop : (b : ℕ) (s : List ℕ) → (b ≡ semicolon → ⊥) → (b ≡ newline → ⊥) → uncommented (b ∷ s) ≡ b ∷ uncommented s
 unfolding uncommented up_to
@@ -44,19 +56,6 @@ code-ended s = refl
 code_empty : uncommented [] ≡ []
 unfolding uncommented up_to
 code_empty = refl
-
-module _ (s : List ℕ) (i : ℕ) (h : i < length s) where
-  pub code_more : (get_or s i 0 ≡ semicolon → ⊥) → (get_or s i 0 ≡ newline → ⊥) → length (uncommented (drop i s)) ≡ suc (length (uncommented (drop (i + 1) s)))
-  code_more e f = rw (drop-cons s i 0 h, add-one) (ap length (code_stop (get_or s i 0) (drop (suc i) s) e f))
-
-  pub code_at_comment : get_or s i 0 ≡ semicolon → length (uncommented (drop i s)) ≡ 0
-  code_at_comment e = rw (drop-cons s i 0 h, e) (ap length (code_comment (drop (suc i) s)))
-
-  pub code_at_end : get_or s i 0 ≡ newline → length (uncommented (drop i s)) ≡ 0
-  code_at_end e = rw (drop-cons s i 0 h, e) (ap length (code-ended (drop (suc i) s)))
-
-pub code_none : (s : List ℕ) (i : ℕ) → length s ≤ i → length (uncommented (drop i s)) ≡ 0
-code_none s i h = let e : drop i s ≡ [] = drop_of_length-le s h in rw e (ap length code_empty)
 
 -- the newline is looked for after that
 line_on : (b : ℕ) (s : List ℕ) → (b ≡ newline → ⊥) → length (up_to newline (b ∷ s)) ≡ suc (length (up_to newline s))

@@ -9,32 +9,31 @@ use native.Mathlib.Nat.{zero-add}
 use lib.ListN.{length, get_or, set, replicate, length-append, length-set}
 use lib.Seq.{sets, get_or-set_same, get_or-set_other}
 use lib.Dec.{ltb, leb, eqb, ltb→lt, leb→le}
-use borrow.Author.Tests.{eq-eqb, ne_eqb, lt-ltb, le-ltb, le-leb, lt-leb, leb-true, leb-false, eqb-true, eqb-false}
-use Rattle.model.specs.declared.Answer.{Answer}
-use Rattle.model.specs.declared.Answer.TheVariants.{Count, Halted, Spent, Refused}
+use borrow.Author.Tests.{eq-eqb, ne_eqb, lt-ltb, le-ltb, le-leb, leb-true, leb-false, eqb-true, eqb-false}
+use Rattle.std.specs.Prelude.{Result, Err}
+use Rattle.model.specs.declared.Refusal.{Refusal}
 use Rattle.model.specs.declared.Operand.{Operand}
 use Rattle.model.specs.declared.Operand.TheVariants.{Empty, Literal, Register, Cell, PublicCell, SensitiveCell, TableCell}
 use Rattle.model.specs.declared.Target.{Target}
 use Rattle.model.specs.declared.Target.TheVariants.{Empty as NoTarget, Line as ToLine}
 use Rattle.model.specs.declared.Line.{Line}
 use Rattle.model.specs.Limits.{line_width, max_accepted}
-use Rattle.model.specs.Answers.{Report, report, done, refused, counted, outcome, at_front}
+use Rattle.model.specs.Answers.{report, refused, counted, outcome, at_front}
 use Rattle.model.specs.Stored.{literals, registers, cells, publics, sensitives, tables, operand_of, target_of, line_at, line_of, at_line, line_count, lines, lines_from}
 use Rattle.model.specs.Text.{newline, comma, decimal, spell_opcode, fitted}
 use Rattle.model.specs.Marks.{mark_check}
 use Rattle.model.proofs.TestLaws.{below, or_false, and_both, holds}
-use Rattle.model.proofs.StoredLaws.{operand_back, lines-length, length-lines, never_counted}
+use Rattle.model.proofs.StoredLaws.{operand_back, lines-length, length-lines}
 use Rattle.model.proofs.DecimalLaws.{decimal_5}
 use Rattle.model.proofs.SpellingLaws.{opcode_3}
-use Rattle.model.proofs.OutcomeLaws.{never_done}
 use Rattle.model.proofs.Acceptance.{accepted_right}
-use Rattle.model.proofs.CheckAnswers.{mark_answers, accepted_source, NoCount, no_count_refuses, handed_on}
+use Rattle.model.proofs.CheckAnswers.{accepted_source, refusal, refusal-told, refusal_leaves}
 use Rattle.printing.specs.Writing.{Wrote}
 use Rattle.printing.proofs.WroteLaws.{wrote_sets}
 use Rattle.published.specs.Published.{space, colon}
 use Rattle.published.specs.Published.{based, spell_published, line_name, spell_target_name}
 use Rattle.published.specs.Published.{spaced, instruction_text, goes_to, is_target, label_line, published_from, published, bit}
-use Rattle.published.specs.Printing.{marked_by, Used, Handed, publish_outcome}
+use Rattle.published.specs.Printing.{marked_by, Used, publish_outcome}
 use Rattle.printing.proofs.PrintLaws.{minus_0, one_less}
 use Rattle.published.proofs.TableLaws.{zeros}
 use Rattle.published.proofs.OperandSpelling.{number_spelled, published-filled}
@@ -152,22 +151,6 @@ unfolding is_target
 none_used n i h = zeros n i
 
 -- a target by its number, or not
-pub mark_some : (t : ℕ) (used : List ℕ) → 0 < t → t ≤ length used → set used (t - 1) 1 ≡ marked_by t used
-unfolding marked_by
-mark_some t used h g = rw (lt-ltb 0 t h, le-leb t (length used) g)
-
-pub mark_none : (t : ℕ) (used : List ℕ) → t ≤ 0 → used ≡ marked_by t used
-unfolding marked_by
-mark_none t used h = rw (le-ltb 0 t h)
-
-pub mark_past : (t : ℕ) (used : List ℕ) → length used < t → used ≡ marked_by t used
-unfolding marked_by
-mark_past t used h = rw (lt-leb t (length used) h) (by (ltb 0 t))
-  where
-    by : (x : Bool) → used ≡ cond (x && false) (set used (t - 1) 1) used
-    by true = refl
-    by false = refl
-
 pub marking_next : (p used : List ℕ) (n i t : ℕ) → Marking p used n i → i < n → t ≡ get_or p (line_width * i + 5) 0 → {new : List ℕ} → new ≡ marked_by t used → Marking p new n (i + 1)
 unfolding marked_by
 marking_next p used n i t M h e {new} q = rw q (by (ltb 0 t && leb t (length used)) refl)
@@ -345,34 +328,10 @@ pub none_set : (i : ℕ) (t : List ℕ) → sets [] i t ≡ []
 none_set i [] = refl
 none_set i (b ∷ t) = none_set (suc i) t
 
-pub handed_count : (a : Answer) (n : ℕ) → a ≡ Count n → Handed (report a) (counted n)
-handed_count a n e = rw e (record { counts = λ k q. q; refuses = λ k l q. absurd (never_refused q) })
-  where
-    never_refused : {m k l : ℕ} → counted m ≡ refused k l → ⊥
-    never_refused q = never_counted (sym q)
-
-pub handed_refused : (a : Answer) (k l : ℕ) → a ≡ Refused k l → Handed (report a) (refused k l)
-handed_refused a k l e = rw e (record { counts = λ n q. q; refuses = λ j i q. q })
-
--- an answer of a run is neither
-handed_run : (k i n : ℕ) (x : Report) → Handed (done (k ∷ i ∷ n ∷ [])) x
-handed_run k i n x = record { counts = λ m q. absurd (no_count m q); refuses = λ j l q. absurd (never_done (sym q)) }
-  where
-    no_count : (m : ℕ) → done (k ∷ i ∷ n ∷ []) ≡ counted m → ⊥
-    no_count m q = let z : ◌≡◌ {A = ℕ} 0 1 = cc in omega arith
-
-pub handed_halted : (a : Answer) (i n : ℕ) (x : Report) → a ≡ Halted i n → Handed (report a) x
-handed_halted a i n x e = rw e (handed_run 0 i n x)
-
-pub handed_spent : (a : Answer) (i n : ℕ) (x : Report) → a ≡ Spent i n → Handed (report a) x
-handed_spent a i n x e = rw e (handed_run 1 i n x)
-
 module _ (p out : List ℕ) where
-  pub publish_refused : (a : Answer) (x : Report) → NoCount a → report a ≡ mark_check p → Handed (report a) x → outcome x (out ∷ []) ≡ publish_outcome p out
+  pub publish_refused : (a : Result ℕ (Refusal ℕ)) (f : Refusal ℕ) → a ≡ Err f → report a ≡ mark_check p → outcome (refusal f) (out ∷ []) ≡ publish_outcome p out
   unfolding publish_outcome
-  publish_refused a x h e g =
-      let r = no_count_refuses a h (mark_answers p) e in
-      ap (λ (y : Report). outcome y (out ∷ [])) (g.refuses r.number r.line (e ∙ r.is) ∙ sym (e ∙ r.is)) ∙ handed_on a h (mark_answers p) e (out ∷ []) _
+  publish_refused a f q e = refusal_leaves f (refusal-told q e) (out ∷ []) _
 
   module _ (n : ℕ) (e : mark_check p ≡ counted n) where
     pub publish_room : leb (length (published (lines p))) (length out) ≡ false → outcome (refused 17 0) (out ∷ []) ≡ publish_outcome p out

@@ -1,6 +1,6 @@
 -- The table of labels: a name is found in its bucket exactly as among all labels, since names in other buckets are other names. Assumes nothing.
 use Prim.Native.Nat.{ℕ, zero, suc, ◌+◌, ◌-◌, ◌*◌, ◌%◌, ◌≤◌, ◌<◌}
-use mathlib.Core.Bool.{Bool, true, false, cond, ◌&&◌}
+use mathlib.Core.Bool.{Bool, true, false, cond, not, ◌&&◌}
 use mathlib.Core.Path.{◌≡◌, refl, sym, ap, ap₂, subst, ◌∙◌}
 use mathlib.Core.List.{List, [], ◌∷◌}
 use mathlib.Core.Option.{none, some}
@@ -11,10 +11,12 @@ use lib.ListN.{length, get_or, take, drop, set, replicate, length-set, drop_of_l
 use lib.Seq.{get_or-set_same, get_or-set_other, drop-cons}
 use lib.Dec.{ltb, eqb, ltb→lt}
 use borrow.Author.Tests.{eq-eqb, eqb-true}
+use Rattle.text.specs.Fields.{found}
 use Rattle.model.specs.Text.{same_bytes}
 use Rattle.model.proofs.TestLaws.{and_both, holds, below}
 use Rattle.model.proofs.SpellingLaws.{same_bytes_lem}
 use Rattle.published.specs.Published.{Label, find, is_missing, is_name, max_labels, is_within}
+use Rattle.std.specs.Prelude.{Option as Found, Some, None, is_some}
 use Rattle.published.specs.Table.{hash_from, buckets, bucket_of, entry_width, entry_at, entries, last_in, Linked, Added}
 
 -- ---- an empty table
@@ -34,9 +36,9 @@ pub hash_none : (name : List ℕ) (h i : ℕ) → length name ≤ i → hash_fro
 unfolding hash_from
 hash_none name h i g = let e : drop i name ≡ [] = drop_of_length-le name g in rw e
 
-pub bucket_is : (name : List ℕ) (h i : ℕ) → length name ≤ i → hash_from h (drop i name) ≡ hash_from 0 (drop (length name - 8) name) → (h % buckets ≡ bucket_of name) × (h % buckets < buckets)
+pub bucket_is : (name last : List ℕ) (h i : ℕ) → length last ≤ i → hash_from h (drop i last) ≡ hash_from 0 (drop (length name - 8) name) → (h % buckets ≡ bucket_of name) × (h % buckets < buckets)
 unfolding bucket_of
-bucket_is name h i g e = (ap (λ (k : ℕ). k % buckets) (sym (hash_none name h i g) ∙ e), mod-lt h (omega arith))
+bucket_is name last h i g e = (ap (λ (k : ℕ). k % buckets) (sym (hash_none last h i g) ∙ e), mod-lt h (omega arith))
 
 -- ---- clauses
 
@@ -219,18 +221,16 @@ module _ (t : List ℕ) (m a n line next : ℕ) (h : entry_width * m + 4 ≤ len
 -- ---- whether a label is within the limits
 
 module _ (labels : List Label) (name : List ℕ) where
-  pub no_name : is_name name ≡ false → false ≡ is_within labels name
+  -- a name that no label has is found nowhere
+  pub none_missing : (r : Found ℕ) (t : Bool) → is_some r ≡ not t → found r ≡ find name labels → t ≡ is_missing (find name labels)
+  none_missing None true q e = ap is_missing e
+  none_missing None false q e = cc
+  none_missing (Some k) true q e = cc
+  none_missing (Some k) false q e = ap is_missing e
+
+  pub within_is : (t : Bool) (m : ℕ) → t ≡ is_name name && is_missing (find name labels) → length labels ≡ m → t && ltb m max_labels ≡ is_within labels name
   unfolding is_within
-  no_name e = rw e
-
-  module _ (e : is_name name ≡ true) where
-    pub double : (k : ℕ) → find name labels ≡ some k → false ≡ is_within labels name
-    unfolding is_within
-    double k q = rw (e, q)
-
-    pub single : (m : ℕ) → length labels ≡ m → find name labels ≡ none → ltb m max_labels ≡ is_within labels name
-    unfolding is_within
-    single m l q = rw (e, q, l)
+  within_is t m e l = ap₂ (λ (u : Bool) (k : ℕ). u && ltb k max_labels) e (sym l)
 
 few_new : (labels : List Label) (name : List ℕ) → is_within labels name ≡ true → length labels < max_labels
 unfolding is_within

@@ -341,31 +341,38 @@ module _ {s s2 s3 s4 : List ℕ} {i j k count : ℕ} (C : Cut3 s s2 s3 s4 i j k 
   w3 : take k s3 ≡ word_of s3
   w3 = word_take s3 k C.third
 
-  pub wrong_none : o ≡ 0 → (count ≡ 0 → ⊥) → wrong 25 ≡ Whole
+  wrong_none : o ≡ 0 → (count ≡ 0 → ⊥) → wrong 25 ≡ Whole
   wrong_none z c = as_filled (none_wrong s C.start f2 f3 f4 n labels o (λ e. c (C.there ∙ e))) (fills_none o z)
 
   pub right_none : o ≡ 0 → count ≡ 0 → operands_parsed n o [] [] [] 0 ≡ Whole
   right_none z c = as_filled (none_there s C.start f2 f3 f4 n labels o (sym C.there ∙ c)) (fills_none o z)
 
-  pub wrong_jump : o ≡ 1 → (count ≡ 1 → ⊥) → wrong 25 ≡ Whole
+  wrong_jump : o ≡ 1 → (count ≡ 1 → ⊥) → wrong 25 ≡ Whole
   wrong_jump z c = as_filled (target_wrong s C.start f2 f3 f4 n labels o (λ e. c (C.there ∙ e))) (fills_target o z)
 
   pub right_jump : o ≡ 1 → count ≡ 1 → or_missing true labels (take i s) (operands_parsed n o [] [] []) ≡ Whole
   right_jump z c =
       ap (λ (x : List ℕ). or_missing true labels x (operands_parsed n o [] [] [])) w1 ∙ as_filled (target_there s C.start f2 f3 f4 n labels o (sym C.there ∙ c)) (fills_target o z)
 
-  pub wrong_two : 2 ≤ o → o < 4 → (count ≡ 2 → ⊥) → wrong 25 ≡ Whole
+  wrong_two : 2 ≤ o → o < 4 → (count ≡ 2 → ⊥) → wrong 25 ≡ Whole
   wrong_two h g c = as_filled (two_wrong s C.start f2 f3 f4 n labels o (λ e. c (C.there ∙ e))) (fills_two o h g)
 
   pub right_two : 2 ≤ o → o < 4 → count ≡ 2 → operands_parsed n o (take i s) (take j s2) [] 0 ≡ Whole
   right_two h g c =
       three_parts (λ (x y z : List ℕ). operands_parsed n o x y z 0) w1 w2 refl ∙ as_filled (two_there s C.start f2 f3 f4 n labels o (sym C.there ∙ c)) (fills_two o h g)
 
-  pub wrong_three : 4 ≤ o → o < opcodes → (count ≡ 3 → ⊥) → wrong 25 ≡ Whole
+  wrong_three : 4 ≤ o → o < opcodes → (count ≡ 3 → ⊥) → wrong 25 ≡ Whole
   wrong_three h g c =
       below o 11
       (λ l. as_filled (three_wrong s C.start f2 f3 f4 n labels o (λ e. c (C.there ∙ e))) (fills-three o h l))
       (λ l. as_filled (branch_wrong s C.start f2 f3 f4 n labels o (λ e. c (C.there ∙ e))) (fills_branch o l g))
+
+  -- no count that an opcode takes
+  pub wrong_count : o < opcodes → (o ≡ 0 → count ≡ 0 → ⊥) → (o ≡ 1 → count ≡ 1 → ⊥) → (2 ≤ o → o < 4 → count ≡ 2 → ⊥) → (4 ≤ o → count ≡ 3 → ⊥) → wrong 25 ≡ Whole
+  wrong_count g no_part one two three =
+      below o 4
+      (λ l. below o 2 (λ l2. below o 1 (λ l1. let z : o ≡ 0 = omega arith in wrong_none z (no_part z)) (λ l1. let z : o ≡ 1 = omega arith in wrong_jump z (one z))) (λ l2. wrong_two l2 l (two l2 l)))
+      (λ l. wrong_three l g (three l))
 
   pub right-three : 4 ≤ o → o < 11 → count ≡ 3 → operands_parsed n o (take i s) (take j s2) (take k s3) 0 ≡ Whole
   right-three h g c =

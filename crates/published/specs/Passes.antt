@@ -1,32 +1,30 @@
 -- What the two passes over a published text leave: labels and counts, then the stored lines. Assumes nothing.
-use Rattle.std.specs.Prelude.{◌≡◌, Bool, true, false, cond, not, ◌&&◌, ◌||◌, ℕ, suc, ◌+◌, ◌*◌, ◌%◌, ◌≤◌, ltb, leb, eqb, length, get_or, set, take, drop}
+use Rattle.std.specs.Prelude.{◌≡◌, Option, Some, None, Result, Ok, Err, Bool, cond, not, ◌&&◌, ◌||◌, ℕ, suc, ◌+◌, ◌*◌, ◌%◌, ◌≤◌, ltb, leb, eqb, length, get_or, set, take, drop}
 use mathlib.Core.List.{List, [], ◌∷◌, flat_map}
 use Rattle.std.proofs.lemmas.List.Edits.{sets}
 use Rattle.model.specs.Limits.{line_width, max_accepted}
-use Rattle.model.specs.Answers.{counted}
+use Rattle.model.specs.Answers.{counted, number_of, report}
 use Rattle.model.specs.Stored as stored
-use Rattle.published.specs.declared.Converted.{Converted}
+use Rattle.model.specs.declared.Condition.{Condition}
+use Rattle.model.specs.declared.Refusal.{Refusal}
 use Rattle.published.specs.declared.instructions.Instruction.{Instruction}
-use Rattle.published.specs.declared.instructions.Read.{Read}
-use Rattle.published.specs.declared.instructions.Read.TheVariants.{Line, Refused}
-use Rattle.published.specs.declared.taking.Tally.{Tally}
-use Rattle.published.specs.Published.{words, TextLine, Seen, none_seen, labels_after, after, seen_from, label_wrong, parsed_line, text_lines, take_in_check, conversion}
+use Rattle.published.specs.Published.{words, TextLine, Seen, none_seen, labels_after, after, seen_from, label_wrong, parsed_line, text_lines, take_in_check}
 use Rattle.published.specs.Reading.{trimmed, label_size}
 use Rattle.published.specs.Table.{entries, Linked}
 
 -- ---- what the code's answers mean
 
 -- the stored number of a target, 0 for none
-abbrev pub target_number : Bool → ℕ → ℕ
-target_number true n = 1 + n
-target_number false n = 0
+abbrev pub target_number : Option ℕ → ℕ
+target_number (Some n) = 1 + n
+target_number None = 0
 
 abbrev pub instruction_numbers : Instruction → List ℕ
-instruction_numbers l = l.mark ∷ l.opcode ∷ l.destination ∷ l.first ∷ l.second ∷ target_number l.aimed l.target ∷ []
+instruction_numbers l = l.mark ∷ l.opcode ∷ l.destination ∷ l.first ∷ l.second ∷ target_number l.target ∷ []
 
-abbrev pub meaning : Read → stored.Parsed
-meaning (Line l) = stored.numbers (instruction_numbers l)
-meaning (Refused k) = stored.wrong k
+abbrev pub meaning : Result Instruction Condition → stored.Parsed
+meaning (Ok l) = stored.numbers (instruction_numbers l)
+meaning (Err c) = stored.wrong (number_of c)
 
 -- ---- the first pass
 
@@ -52,11 +50,11 @@ NamedAt text old heads table start m r w n =
     → Named text old heads table m r w (words (take size (drop start text))) n
 
 -- the labels of the whole text, how many lines it counts, and how many stand before the first wrong label
-pub record Collected (text heads table : List ℕ) (r : Tally) : Type 0 where
-  pub linked : Linked text heads table r.labels
+pub record Collected (text heads table : List ℕ) (labels clean : ℕ) : Type 0 where
+  pub linked : Linked text heads table labels
   pub count : ℕ
-  pub seen : seen_in text table r.labels count ≡ seen_from none_seen (text_lines text)
-  pub clean : r.clean ≡ clean_from none_seen (text_lines text)
+  pub seen : seen_in text table labels count ≡ seen_from none_seen (text_lines text)
+  pub first_wrong : clean ≡ clean_from none_seen (text_lines text)
 
 -- ---- the second pass
 
@@ -79,6 +77,6 @@ pub record Kept (old new : List ℕ) (n k : ℕ) (ns : List ℕ) : Type 0 where
   pub after : line_width * k ≡ line_width * n + length ns
 
 -- what the second pass answers, and the lines that it stores where nothing is refused
-pub record Converts (text old new : List ℕ) (r : Converted) : Type 0 where
-  pub answer : conversion r ≡ take_in_check text
-  pub stored : (n : ℕ) → conversion r ≡ counted n → new ≡ sets old 0 (kept_lines (seen_from none_seen (text_lines text)) (text_lines text))
+pub record Converts (text old new : List ℕ) (r : Result ℕ (Refusal ℕ)) : Type 0 where
+  pub answer : report r ≡ take_in_check text
+  pub stored : (n : ℕ) → report r ≡ counted n → new ≡ sets old 0 (kept_lines (seen_from none_seen (text_lines text)) (text_lines text))

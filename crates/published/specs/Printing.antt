@@ -2,7 +2,7 @@
 use Rattle.std.specs.Prelude.{◌≡◌, cond, ◌&&◌, List, [], ◌∷◌, ℕ, ◌-◌, ◌≤◌, ltb, leb, length, get_or, set}
 use Rattle.model.specs.declared.Line.{Line}
 use Rattle.model.specs.Limits.{max_accepted, max_lines}
-use Rattle.model.specs.Answers.{Report, counted, refused, Outcome, unless_refused}
+use Rattle.model.specs.Answers.{counted, Outcome, unless_refused}
 use Rattle.model.specs.Stored.{lines}
 use Rattle.model.specs.Text.{reading, fitted}
 use Rattle.model.specs.Marks.{mark_check}
@@ -15,11 +15,6 @@ marked_by t used = cond (ltb 0 t && leb t (length used)) (set used (t - 1) 1) us
 -- a 1 for each line that is a target, and for the end
 abbrev pub Used : List Line → List ℕ → Type 0
 Used p used = (i : ℕ) → i ≤ max_accepted → get_or used i 0 ≡ bit (is_target p i)
-
--- what a check answers that counts or refuses, handed on
-pub record Handed (x y : Report) : Type 0 where
-  pub counts : (n : ℕ) → x ≡ counted n → y ≡ counted n
-  pub refuses : (k l : ℕ) → x ≡ refused k l → y ≡ refused k l
 
 -- a text that is not read whole into a store of 1,024 lines
 abbrev pub Unread : List ℕ → Type 0

@@ -15,8 +15,6 @@ use Rattle.model.specs.Lines.{Filled, fills}
 use Rattle.model.specs.Stored.{tables, opcode_of, operand_of, line_of, lines, Parsed, numbers, wrong, or_wrong, no_literal, fault}
 use Rattle.model.specs.Text.{newline, comma, decimal, spell_opcode, same_bytes, spelled_from, opcode_field, up_to, count_of, Reading, reading, text_of, fitted}
 use Rattle.model.specs.Marks.{mark_fault, mark_check}
-use Rattle.published.specs.declared.Converted.{Converted}
-use Rattle.published.specs.declared.Converted.TheVariants.{Count, Refused}
 
 -- ---- blanks are spaces and tabs, one or more between parts, any before and after, none inside; a `;` anywhere starts a comment; a line ends
 -- with a newline
@@ -312,9 +310,3 @@ taken_in text = text_of (stored_lines (seen_from none_seen (text_lines text)) (t
 
 unfoldable pub take_in_outcome : List ℕ → List ℕ → Outcome
 take_in_outcome text out = unless_refused (take_in_check text) (out ∷ []) (fitted (taken_in text) out)
-
--- ---- the number and values of each answer of the code
-
-abbrev pub conversion : Converted → Report
-conversion (Count n) = counted n
-conversion (Refused number line) = refused number line

@@ -3,8 +3,7 @@
 use Rattle.std.specs.Prelude.{◌≡◌, cond, List, [], ◌∷◌, ℕ, ◌+◌, ◌-◌, ◌*◌, ltb, eqb, length, get_or, take, drop}
 use Rattle.model.specs.Stored as stored
 use Rattle.model.specs.Text.{newline, comma, up_to, past}
-use Rattle.text.specs.declared.Field.{Field}
-use Rattle.text.specs.declared.Field.TheVariants.{Is, Wrong}
+use Rattle.std.specs.Prelude.{Option as Field, Some, None}
 use Rattle.text.specs.Fields.{read_number, read_direct}
 use Rattle.published.specs.declared.lines.Place.{Place}
 use Rattle.published.specs.Published.{is_blank, semicolon, is_label}
@@ -32,26 +31,26 @@ parts_there a b c d = cond (eqb a 0) 0 (cond (eqb b 0) 1 (cond (eqb c 0) 2 (cond
 -- ---- operands
 
 -- offsets from 128 on are sensitive cells
-abbrev pub pointed_at : ℕ → ℕ → Field
-pointed_at b k = cond (ltb k 128) (Is (stored.publics + (128 * b + k))) (Is (stored.sensitives + (128 * b + (k - 128))))
+abbrev pub pointed_at : ℕ → ℕ → Field ℕ
+pointed_at b k = cond (ltb k 128) (Some (stored.publics + (128 * b + k))) (Some (stored.sensitives + (128 * b + (k - 128))))
 
-abbrev pub pointed : Field → Field → Field
-pointed (Is b) (Is k) = pointed_at b k
-pointed (Is b) Wrong = Wrong
-pointed Wrong o = Wrong
+abbrev pub pointed : Field ℕ → Field ℕ → Field ℕ
+pointed (Some b) (Some k) = pointed_at b k
+pointed (Some b) None = None
+pointed None o = None
 
 -- `rN,k`, or `rN` alone
-unfoldable pub read_based : List ℕ → Field
+unfoldable pub read_based : List ℕ → Field ℕ
 read_based s =
     cond (eqb (get_or s 0 0) 114)
     (pointed (read_number 32 (up_to comma (drop 1 s)))
-    (cond (eqb (length (up_to comma (drop 1 s))) (length (drop 1 s))) (Is 0) (read_number 256 (past comma (drop 1 s)))))
-    Wrong
+    (cond (eqb (length (up_to comma (drop 1 s))) (length (drop 1 s))) (Some 0) (read_number 256 (past comma (drop 1 s)))))
+    None
 
 -- all but `!` is read as in our line form
-unfoldable pub read_part : List ℕ → Field
+unfoldable pub read_part : List ℕ → Field ℕ
 read_part s =
-    cond (eqb (length s) 0) (Is 0)
+    cond (eqb (length s) 0) (Some 0)
     (cond (eqb (get_or s 0 0) 33) (read_based (drop 1 s))
     (read_direct (get_or s 0 0) (drop 1 s)))
 

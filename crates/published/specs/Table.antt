@@ -1,14 +1,6 @@
 -- The table of labels as the code keeps it: four numbers a label, and the labels of a bucket linked, the last one first. Assumes nothing.
 use Rattle.std.specs.Prelude.{◌≡◌, cond, List, [], ◌∷◌, ℕ, zero, suc, ◌+◌, ◌-◌, ◌*◌, ◌%◌, ◌≤◌, ◌<◌, eqb, length, get_or, take, drop}
-use Rattle.std.proofs.Math.Option.{Option, none, some}
-use Rattle.published.specs.declared.labels.Found.{Found}
-use Rattle.published.specs.declared.labels.Found.TheVariants.{Line, Missing}
 use Rattle.published.specs.Published.{Label, max_labels, is_within}
-
--- what looking a name up finds
-abbrev pub found_line : Found → Option ℕ
-found_line (Line n) = some n
-found_line Missing = none
 
 -- a number of a name's last eight bytes, and the bucket of the names that share it
 unfoldable pub hash_from : ℕ → List ℕ → ℕ

@@ -1,16 +1,16 @@
 // An instruction of the published text: its parts read to stored numbers, or the condition that holds.
-ghost use Rattle.std.specs.Prelude.{◌≡◌, true, [], ℕ, ◌<◌, ◌≤◌};
+ghost use Rattle.std.specs.Prelude.{◌≡◌, true, [], ℕ, ◌<◌, ◌≤◌, IfSome};
 ghost use Rattle.model.specs.Lines.{fills};
 ghost use Rattle.model.specs.Stored.{opcode_of, opcodes};
 ghost use Rattle.published.specs.Published.{words, mark_for, or_missing, operands_parsed, parts_parsed, instruction_parsed};
 ghost use Rattle.published.specs.Reading.{trimmed, parts_there};
-ghost use Rattle.published.specs.Table.{entries, Low, Linked};
+ghost use Rattle.published.specs.Table.{entries, Low};
 ghost use Rattle.published.specs.Passes.{target_number, meaning};
 
-use crate::labels::{Found, all_alphanumeric, bucket, find_label};
+use crate::labels::{Labels, all_alphanumeric, bucket};
 use crate::operands::operand;
 use crate::parts::{after, word};
-use text::Field;
+use model::Condition;
 use text::fields::{no_literal, opcode};
 
 // The stored numbers of an instruction; its target, where it has one, is the line that a label names.
@@ -21,76 +21,60 @@ pub struct Instruction {
     pub destination: u16,
     pub first: u16,
     pub second: u16,
-    pub aimed: bool,
-    pub target: usize,
-}
-
-// What reading an instruction finds: its numbers, or the number of the condition that holds.
-#[derive(Clone, Copy)]
-pub enum Read {
-    Line(Instruction),
-    Refused(u8),
+    pub target: Option<usize>,
 }
 
 // The mark is s exactly where the destination is sensitive.
 fn mark_for(d: u16) -> u16
     ensures { result ≡ mark_for d }
 {
-    if coding::is_sensitive(marks::kind_of(d)) {
-        return 1;
-    }
-    0
+    u16::from(coding::is_sensitive(marks::kind_of(d)))
 }
 
 // The operands, then the mark check. It is made without the target: a label names no line above the count.
-fn operands(o: u16, d: &[u8], a: &[u8], b: &[u8], aimed: bool, target: usize) -> Read
-    ensures { (n : ℕ) → target ≤ n → meaning result ≡ operands_parsed n o d.now a.now b.now (target_number aimed target) }
+fn operands(
+    o: u16,
+    d: &[u8],
+    a: &[u8],
+    b: &[u8],
+    target: Option<usize>,
+) -> Result<Instruction, Condition>
+    ensures { (n : ℕ) → IfSome target (λ line. line ≤ n) → meaning result ≡ operands_parsed n o d.now a.now b.now (target_number target) }
 {
-    let Field::Is(destination) = no_literal(operand(d)) else {
-        return Read::Refused(25);
-    };
-    let Field::Is(first) = operand(a) else {
-        return Read::Refused(25);
-    };
-    let Field::Is(second) = operand(b) else {
-        return Read::Refused(25);
-    };
+    let destination = no_literal(operand(d)).ok_or(Condition::NoCounterpart)?;
+    let first = operand(a).ok_or(Condition::NoCounterpart)?;
+    let second = operand(b).ok_or(Condition::NoCounterpart)?;
     let mark = mark_for(destination);
-    if marks::mark_fault(0, mark, o, destination, first, second, 0) != 0 {
-        return Read::Refused(25);
+    if marks::mark_fault(0, mark, o, destination, first, second, 0).is_some() {
+        return Err(Condition::NoCounterpart);
     }
-    Read::Line(Instruction {
+    Ok(Instruction {
         mark,
         opcode: o,
         destination,
         first,
         second,
-        aimed,
         target,
     })
 }
 
 // An instruction with a target: 25 where it is not of letters and digits, 24 where no label has this name.
 fn targeted(
-    text: &[u8],
-    heads: &[usize],
-    table: &[usize],
-    m: usize,
+    labels: &Labels,
     o: u16,
     a: &[u8],
     b: &[u8],
     name: &[u8],
-) -> Read
-    requires { Linked text.now heads.now table.now m }
-    ensures { (n : ℕ) → Low n (entries text.now table.now m) → meaning result ≡ or_missing true (entries text.now table.now m) name.now (operands_parsed n o [] a.now b.now) }
+) -> Result<Instruction, Condition>
+    ensures { (n : ℕ) → Low n (entries labels.now.text.now labels.now.table labels.now.count) → meaning result ≡ or_missing true (entries labels.now.text.now labels.now.table labels.now.count) name.now (operands_parsed n o [] a.now b.now) }
 {
     if !all_alphanumeric(name) {
-        return Read::Refused(25);
+        return Err(Condition::NoCounterpart);
     }
-    let Found::Line(line) = find_label(text, heads, table, m, name, bucket(name)) else {
-        return Read::Refused(24);
-    };
-    operands(o, &name[..0], a, b, true, line)
+    let line = labels
+        .find(name, bucket(name))
+        .ok_or(Condition::WrongLabel)?;
+    operands(o, &name[..0], a, b, Some(line))
 }
 
 // How many of four parts are there.
@@ -98,24 +82,22 @@ fn part_count(a: usize, b: usize, c: usize, d: usize) -> usize
     ensures { result ≡ parts_there a b c d }
 {
     if a == 0 {
-        return 0;
+        0
+    } else if b == 0 {
+        1
+    } else if c == 0 {
+        2
+    } else if d == 0 {
+        3
+    } else {
+        4
     }
-    if b == 0 {
-        return 1;
-    }
-    if c == 0 {
-        return 2;
-    }
-    if d == 0 {
-        return 3;
-    }
-    4
 }
 
 // The parts after an opcode.
-fn filled(text: &[u8], heads: &[usize], table: &[usize], m: usize, o: u16, s: &[u8]) -> Read
-    requires { Linked text.now heads.now table.now m × ((o < opcodes) × (trimmed s.now ≡ s.now)) }
-    ensures { (n : ℕ) → Low n (entries text.now table.now m) → meaning result ≡ parts_parsed n (entries text.now table.now m) o (fills (opcode_of o)) (words s.now) }
+fn filled(labels: &Labels, o: u16, s: &[u8]) -> Result<Instruction, Condition>
+    requires { (o < opcodes) × (trimmed s.now ≡ s.now) }
+    ensures { (n : ℕ) → Low n (entries labels.now.text.now labels.now.table labels.now.count) → meaning result ≡ parts_parsed n (entries labels.now.text.now labels.now.table labels.now.count) o (fills (opcode_of o)) (words s.now) }
 {
     let i = word(s);
     let s2 = after(s, i);
@@ -123,46 +105,27 @@ fn filled(text: &[u8], heads: &[usize], table: &[usize], m: usize, o: u16, s: &[
     let s3 = after(s2, j);
     let k = word(s3);
     let s4 = after(s3, k);
-    let count = part_count(s.len(), s2.len(), s3.len(), s4.len());
-    if o == 0 {
-        if count != 0 {
-            return Read::Refused(25);
-        }
-        return operands(o, &s[..0], &s[..0], &s[..0], false, 0);
+    let empty = &s[..0];
+    match (o, part_count(s.len(), s2.len(), s3.len(), s4.len())) {
+        (0, 0) => operands(o, empty, empty, empty, None),
+        (1, 1) => targeted(labels, o, empty, empty, &s[..i]),
+        (2..4, 2) => operands(o, &s[..i], &s2[..j], empty, None),
+        (4..11, 3) => operands(o, &s[..i], &s2[..j], &s3[..k], None),
+        (11.., 3) => targeted(labels, o, &s[..i], &s2[..j], &s3[..k]),
+        _ => Err(Condition::NoCounterpart),
     }
-    if o == 1 {
-        if count != 1 {
-            return Read::Refused(25);
-        }
-        return targeted(text, heads, table, m, o, &s[..0], &s[..0], &s[..i]);
-    }
-    if o < 4 {
-        if count != 2 {
-            return Read::Refused(25);
-        }
-        return operands(o, &s[..i], &s2[..j], &s[..0], false, 0);
-    }
-    if count != 3 {
-        return Read::Refused(25);
-    }
-    if o < 11 {
-        return operands(o, &s[..i], &s2[..j], &s3[..k], false, 0);
-    }
-    targeted(text, heads, table, m, o, &s[..i], &s2[..j], &s3[..k])
 }
 
 // The instruction that begins a line's rest: its opcode, then its parts.
-pub(crate) fn parse(text: &[u8], heads: &[usize], table: &[usize], m: usize, s: &[u8]) -> Read
-    requires { Linked text.now heads.now table.now m × (trimmed s.now ≡ s.now) }
-    ensures { (n : ℕ) → Low n (entries text.now table.now m) → meaning result ≡ instruction_parsed n (entries text.now table.now m) (words s.now) }
+pub(crate) fn parse(labels: &Labels, s: &[u8]) -> Result<Instruction, Condition>
+    requires { trimmed s.now ≡ s.now }
+    ensures { (n : ℕ) → Low n (entries labels.now.text.now labels.now.table labels.now.count) → meaning result ≡ instruction_parsed n (entries labels.now.text.now labels.now.table labels.now.count) (words s.now) }
 {
     // A line that is not counted.
     if s.len() == 0 {
-        return Read::Refused(25);
+        return Err(Condition::NoCounterpart);
     }
     let i = word(s);
-    let Field::Is(o) = opcode(&s[..i]) else {
-        return Read::Refused(25);
-    };
-    filled(text, heads, table, m, o, after(s, i))
+    let o = opcode(&s[..i]).ok_or(Condition::NoCounterpart)?;
+    filled(labels, o, after(s, i))
 }

@@ -1,9 +1,9 @@
 // Labels: which names are right, and the table in which each is kept as a place of the text. Names are looked up in buckets, so that a
 // listing full of jumps costs no more than another.
-ghost use Rattle.std.specs.Prelude.{◌≡◌, ℕ, ◌+◌, ◌-◌, ◌*◌, ◌%◌, ◌<◌, length, get_or, take, drop};
-ghost use Rattle.model.specs.Text.{same_bytes};
-ghost use Rattle.published.specs.Published.{is_alphanumeric, all_alphanumeric, max_labels, is_name, find as findLabel, is_within};
-ghost use Rattle.published.specs.Table.{found_line, bucket_of, buckets, entry_width, entries, Linked, Added};
+ghost use Rattle.std.specs.Prelude.{◌≡◌, ◌+◌, ◌*◌, ◌%◌, ◌<◌, take, drop};
+ghost use Rattle.text.specs.Fields.{found};
+ghost use Rattle.published.specs.Published.{all_alphanumeric, is_name, find as findLabel, is_within};
+ghost use Rattle.published.specs.Table.{bucket_of, buckets, entries, Linked, Added};
 
 use crate::parts::part;
 
@@ -21,30 +21,14 @@ const TABLE_ROOM: usize = ENTRY_WIDTH * MAX_LABELS;
 
 const BUCKETS: usize = 1024;
 
-// No label in any bucket.
-pub(crate) fn no_heads() -> [usize; BUCKETS]
-    ensures { (length result ≡ buckets) × ((h : ℕ) → get_or result h 0 ≡ 0) }
-{
-    [0usize; BUCKETS]
-}
-
-pub(crate) fn table_room() -> [usize; TABLE_ROOM]
-    ensures { length result ≡ entry_width * max_labels }
-{
-    [0usize; TABLE_ROOM]
-}
-
-// What looking a name up finds: the line that it names, or nothing.
-#[derive(Clone, Copy)]
-pub enum Found {
-    Line(usize),
-    Missing,
-}
-
-fn is_alphanumeric(b: u8) -> bool
-    ensures { result ≡ is_alphanumeric b }
-{
-    ((b'0' <= b) & (b <= b'9')) | ((b'A' <= b) & (b <= b'Z')) | ((b'a' <= b) & (b <= b'z'))
+// The labels of a text, each a place of it. Labels of one bucket are linked, and `heads` has the last of each.
+#[derive(Drop)]
+pub struct Labels<'t> {
+    pub text: &'t [u8],
+    pub heads: [usize; BUCKETS],
+    pub table: [usize; TABLE_ROOM],
+    pub count: usize,
+    pub ghost linked: { Linked text.now heads table count },
 }
 
 // Every byte is looked at, so that several are at a time.
@@ -52,41 +36,18 @@ pub(crate) fn all_alphanumeric(s: &[u8]) -> bool
     ensures { result ≡ all_alphanumeric s.now }
 {
     let mut all = true;
-    let mut i: usize = 0;
-    while i < s.len() {
-        all = all & is_alphanumeric(s[i]);
-        i += 1;
+    for b in s {
+        all &= b.is_ascii_alphanumeric();
     }
     all
 }
 
 // 1 to 16 letters or digits.
+#[tactic(auto, unfolding(crate::specs::Published::is_name))]
 fn is_name(s: &[u8]) -> bool
     ensures { result ≡ is_name s.now }
 {
-    if s.len() == 0 {
-        return false;
-    }
-    if MAX_NAME < s.len() {
-        return false;
-    }
-    all_alphanumeric(s)
-}
-
-// The same bytes. All are looked at here too.
-fn is_same(x: &[u8], y: &[u8]) -> bool
-    ensures { result ≡ same_bytes x.now y.now }
-{
-    if x.len() != y.len() {
-        return false;
-    }
-    let mut same = true;
-    let mut i: usize = 0;
-    while i < x.len() {
-        same = same & (x[i] == y[i]);
-        i += 1;
-    }
-    same
+    0 < s.len() && s.len() <= MAX_NAME && all_alphanumeric(s)
 }
 
 // A number of the bytes so far, and one more.
@@ -97,89 +58,71 @@ fn mixed(h: usize, b: u8) -> usize
     (9 * h + (b as usize)) % 65536
 }
 
-// Where the last eight of n bytes begin.
-fn from_last(n: usize) -> usize
-    ensures { result ≡ n - 8 }
-{
-    if n < 8 {
-        return 0;
-    }
-    n - 8
-}
-
 // The bucket of a name, by its last bytes: names that are numbered differ there.
 pub(crate) fn bucket(name: &[u8]) -> usize
     ensures { (result ≡ bucket_of name.now) × (result < buckets) }
 {
     let mut h: usize = 0;
-    let mut i = from_last(name.len());
-    while i < name.len() {
-        h = mixed(h, name[i]);
-        i += 1;
+    for b in &name[name.len().saturating_sub(8)..] {
+        h = mixed(h, *b);
     }
     h % BUCKETS
 }
 
-// Which line a name stands for, among the m labels of the table; h is its bucket.
-pub(crate) fn find_label(
-    text: &[u8],
-    heads: &[usize],
-    table: &[usize],
-    m: usize,
-    name: &[u8],
-    h: usize,
-) -> Found
-    requires { Linked text.now heads.now table.now m × ((h ≡ bucket_of name.now) × (h < buckets)) }
-    ensures { found_line result ≡ findLabel name.now (entries text.now table.now m) }
-{
-    let mut k = heads[h];
-    while 0 < k {
-        let at = ENTRY_WIDTH * (k - 1);
-        if is_same(part(text, table[at], table[at + 1]), name) {
-            return Found::Line(table[at + 2]);
+impl<'t> Labels<'t> {
+    // The labels of a text before any is kept.
+    pub(crate) fn new(text: &'t [u8]) -> Self
+        ensures text { result.text.now ≡ text.now }
+        ensures none { result.count ≡ 0 }
+    {
+        Labels {
+            text,
+            heads: [0; BUCKETS],
+            table: [0; TABLE_ROOM],
+            count: 0,
         }
-        k = table[at + 3];
     }
-    Found::Missing
-}
 
-// Is a label with this name within the limits, after m others? h is its bucket.
-fn is_within(text: &[u8], heads: &[usize], table: &[usize], m: usize, name: &[u8], h: usize) -> bool
-    requires { Linked text.now heads.now table.now m × ((h ≡ bucket_of name.now) × (h < buckets)) }
-    ensures { result ≡ is_within (entries text.now table.now m) name.now }
-{
-    if !is_name(name) {
-        return false;
+    // Which line a name stands for; h is its bucket.
+    pub(crate) fn find(&self, name: &[u8], h: usize) -> Option<usize>
+        requires { (h ≡ bucket_of name.now) × (h < buckets) }
+        ensures { found result ≡ findLabel name.now (entries self.now.text.now self.now.table self.now.count) }
+    {
+        let mut k = self.heads[h];
+        while 0 < k {
+            let at = ENTRY_WIDTH * (k - 1);
+            if part(self.text, self.table[at], self.table[at + 1]) == name {
+                return Some(self.table[at + 2]);
+            }
+            k = self.table[at + 3];
+        }
+        None
     }
-    let Found::Missing = find_label(text, heads, table, m, name, h) else {
-        return false;
-    };
-    m < MAX_LABELS
-}
 
-// A label kept after m others, where it is within the limits; how many there are then.
-pub(crate) fn add_label(
-    text: &[u8],
-    heads: &mut [usize],
-    table: &mut [usize],
-    m: usize,
-    start: usize,
-    size: usize,
-    line: usize,
-) -> usize
-    requires { Linked text.now heads.old table.old m }
-    ensures { Added text.now table.old heads.new table.new m result (take size (drop start text.now)) line }
-{
-    let name = part(text, start, size);
-    let h = bucket(name);
-    if !is_within(text, heads, table, m, name, h) {
-        return m;
+    // Is a label with this name within the limits, after the others? h is its bucket.
+    fn is_within(&self, name: &[u8], h: usize) -> bool
+        requires { (h ≡ bucket_of name.now) × (h < buckets) }
+        ensures { result ≡ is_within (entries self.now.text.now self.now.table self.now.count) name.now }
+    {
+        is_name(name) && self.find(name, h).is_none() && self.count < MAX_LABELS
     }
-    let at = ENTRY_WIDTH * m;
-    table[at] = start;
-    table[at + 1] = size;
-    table[at + 2] = line;
-    table[at + 3] = heads[h];
-    heads[h] = m + 1;
-    m + 1
+
+    // Keeps a label after the others, where it is within the limits.
+    pub(crate) fn add(&mut self, start: usize, size: usize, line: usize)
+        ensures text { self.new.text.now ≡ self.old.text.now }
+        ensures added { Added self.old.text.now self.old.table self.new.heads self.new.table self.old.count self.new.count (take size (drop start self.old.text.now)) line }
+    {
+        let name = part(self.text, start, size);
+        let h = bucket(name);
+        if !self.is_within(name, h) {
+            return;
+        }
+        let at = ENTRY_WIDTH * self.count;
+        self.table[at] = start;
+        self.table[at + 1] = size;
+        self.table[at + 2] = line;
+        self.table[at + 3] = self.heads[h];
+        self.count += 1;
+        self.heads[h] = self.count;
+    }
 }

@@ -3,13 +3,12 @@
 
 #![tactic(auto)]
 
-ghost use Rattle.std.specs.Prelude.{◌≡◌, [], ◌∷◌, ◌*◌, length};
-ghost use Rattle.model.specs.Answers.{outcome};
-ghost use Rattle.model.specs.Limits.{line_width, max_accepted};
-ghost use Rattle.published.specs.Published.{take_in_outcome, send_out_check, send_out_outcome, conversion};
+ghost use Rattle.std.specs.Prelude.{◌≡◌, [], ◌∷◌};
+ghost use Rattle.model.specs.Answers.{report, outcome};
+ghost use Rattle.published.specs.Published.{take_in_outcome, send_out_check, send_out_outcome};
 ghost use Rattle.published.specs.Printing.{Unread};
 
-use model::{Answer, LINE_WIDTH, MAX_ACCEPTED};
+use model::{Condition, LINE_WIDTH, MAX_ACCEPTED, Refusal};
 
 pub mod home;
 mod instructions;
@@ -20,16 +19,9 @@ mod parts;
 mod sending;
 mod taking;
 
-use labels::{no_heads, table_room};
-use sending::{converted, publish, read_through};
+use labels::Labels;
+use sending::{publish, read_through};
 use taking::{collect, convert};
-
-// What a conversion answers: the count of bytes written, or the number of the condition that holds and the text line.
-#[derive(Clone, Copy)]
-pub enum Converted {
-    Count(usize),
-    Refused { number: u8, line: usize },
-}
 
 // The most bytes of a published line with its label, and of the label at the end.
 pub const LONGEST_LINE: usize = 61;
@@ -39,50 +31,38 @@ pub const LONGEST_LABEL: usize = 8;
 // The numbers of the longest accepted program.
 const STORE_ROOM: usize = LINE_WIDTH * MAX_ACCEPTED;
 
-fn store_room() -> [u16; STORE_ROOM]
-    ensures { length result ≡ line_width * max_accepted }
-{
-    [0u16; STORE_ROOM]
-}
-
 // Takes a published text in: our line form at the front of a lent store. 24 or 25 at the lowest text line, then 17.
-pub fn take_in(text: &[u8], out: &mut [u8]) -> Converted
-    ensures { outcome (conversion result) (out.new ∷ []) ≡ take_in_outcome text.now out.old }
+pub fn take_in(text: &[u8], out: &mut [u8]) -> Result<usize, Refusal<usize>>
+    ensures { outcome (report result) (out.new ∷ []) ≡ take_in_outcome text.now out.old }
 {
-    let mut heads = no_heads();
-    let mut table = table_room();
-    let seen = collect(text, &mut heads, &mut table);
-    let mut store = store_room();
-    let got = convert(text, &heads, &table, seen, &mut store);
-    let Converted::Count(n) = got else {
-        return got;
-    };
-    let end = LINE_WIDTH * n;
-    converted(printing::write(&store[..end], out))
+    let mut labels = Labels::new(text);
+    let clean = collect(&mut labels);
+    let mut store = [0u16; STORE_ROOM];
+    let n = convert(&labels, clean, &mut store)?;
+    let written = printing::write(&store[..LINE_WIDTH * n], out)?;
+    Ok(written as usize)
 }
 
 // Sends our line form out: the published text at the front of a lent store. 1 to 7, then 9 to 16, then 17. Where there are more lines than an
 // accepted program has, the rest is read without a store: a line that is wrong goes before 9.
-pub fn send_out(text: &[u8], out: &mut [u8]) -> Converted
-    ensures { outcome (conversion result) (out.new ∷ []) ≡ send_out_outcome text.now out.old }
+pub fn send_out(text: &[u8], out: &mut [u8]) -> Result<usize, Refusal<usize>>
+    ensures { outcome (report result) (out.new ∷ []) ≡ send_out_outcome text.now out.old }
 {
-    let mut store = store_room();
-    let got = text::read(text, &mut store);
-    let Answer::Count(n) = got else {
+    let mut store = [0u16; STORE_ROOM];
+    let Ok(n) = text::read(text, &mut store) else {
         return refuse(text);
     };
-    let end = LINE_WIDTH * (n as usize);
-    publish(&store[..end], out)
+    publish(&store[..LINE_WIDTH * (n as usize)], out)
 }
 
 // What a text is refused with that has a wrong line, or more lines than an accepted program.
-fn refuse(text: &[u8]) -> Converted
+fn refuse(text: &[u8]) -> Result<usize, Refusal<usize>>
     requires { Unread text.now }
-    ensures { conversion result ≡ send_out_check text.now }
+    ensures { report result ≡ send_out_check text.now }
 {
-    let got = read_through(text);
-    let Answer::Count(_) = got else {
-        return converted(got);
-    };
-    Converted::Refused { number: 9, line: 0 }
+    read_through(text)?;
+    Err(Refusal {
+        condition: Condition::TooLong,
+        line: 0,
+    })
 }

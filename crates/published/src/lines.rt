@@ -18,18 +18,9 @@ pub struct Place {
 fn code_size(line: &[u8]) -> usize
     ensures { (result ≡ length (uncommented line.now)) × (result ≤ length line.now) }
 {
-    let mut i: usize = 0;
-    while i < line.len() {
-        let b = line[i];
-        if b == b';' {
-            return i;
-        }
-        if b == b'\n' {
-            return i;
-        }
-        i += 1;
-    }
-    i
+    line.iter()
+        .position(|b| matches!(*b, b';' | b'\n'))
+        .unwrap_or(line.len())
 }
 
 // The line that begins at a place. Its end is sought behind what stands before a comment.
@@ -54,13 +45,7 @@ pub(crate) fn label_size(s: &[u8]) -> usize
     ensures { (result ≡ label_size s.now) × (result ≤ length s.now) }
 {
     let n = word(s);
-    if n == 0 {
-        return 0;
-    }
-    if s[n - 1] == b':' {
-        return n;
-    }
-    0
+    if 0 < n && s[n - 1] == b':' { n } else { 0 }
 }
 
 // What stands after a label of n bytes.

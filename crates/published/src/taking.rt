@@ -1,53 +1,32 @@
 // A published text taken in: two passes over it, the first for the labels, the second for the lines.
 ghost use Rattle.std.specs.Prelude.{◌≡◌, cond, not, ◌&&◌, ◌+◌, ◌*◌, ◌%◌, ◌≤◌, ◌<◌, ltb, eqb, length};
+ghost use Rattle.model.specs.Answers.{number_or_0};
 ghost use Rattle.model.specs.Limits.{line_width, max_accepted};
-ghost use Rattle.model.specs.Stored.{fault};
 ghost use Rattle.published.specs.Published.{bit};
-ghost use Rattle.published.specs.Table.{Linked};
 ghost use Rattle.published.specs.Passes.{target_number, meaning, NamedAt, Collected, fault_by, kept_of, Kept, Converts};
 
-use crate::Converted;
-use crate::instructions::{Read, parse};
-use crate::labels::add_label;
+use crate::instructions::{Instruction, parse};
+use crate::labels::Labels;
 use crate::lines::{body, label_size, line_at};
 use crate::parts::part;
-use model::MAX_ACCEPTED;
+use model::{Condition, MAX_ACCEPTED, Refusal};
 use text::{Stored, keep_at};
 
-// What the first pass finds: how many labels the text has, and how many lines stand before the first that is double or beyond the limits.
-#[derive(Clone, Copy)]
-pub struct Tally {
-    pub labels: usize,
-    pub clean: usize,
-}
-
-// The label of w bytes that a line begins with, kept after m others; how many there are then.
-fn named(
-    text: &[u8],
-    heads: &mut [usize],
-    table: &mut [usize],
-    m: usize,
-    start: usize,
-    w: usize,
-    n: usize,
-) -> usize
-    requires { Linked text.now heads.old table.old m }
-    ensures { NamedAt text.now table.old heads.new table.new start m result w n }
+// Keeps the label of w bytes that a line begins with, if it has one.
+fn named(labels: &mut Labels, start: usize, w: usize, n: usize)
+    ensures text { labels.new.text.now ≡ labels.old.text.now }
+    ensures named { NamedAt labels.old.text.now labels.old.table labels.new.heads labels.new.table start labels.old.count labels.new.count w n }
 {
-    if w == 0 {
-        return m;
+    if 0 < w {
+        labels.add(start, w - 1, n);
     }
-    add_label(text, heads, table, m, start, w - 1, n)
 }
 
 // 1 for a line with an instruction, else 0.
 fn counts(body: &[u8]) -> usize
     ensures { (result ≡ bit (ltb 0 (length body.now))) × (result ≤ 1) }
 {
-    if 0 < body.len() {
-        return 1;
-    }
-    0
+    usize::from(0 < body.len())
 }
 
 // How many lines stand before the first wrong label, after line i.
@@ -55,83 +34,71 @@ fn clean_after(clean: usize, i: usize, wrong: bool) -> usize
     requires { i < 18446744073709551615 }
     ensures { result ≡ cond (eqb clean i && not wrong) (i + 1) clean }
 {
-    if clean == i {
-        if !wrong {
-            return i + 1;
-        }
-    }
-    clean
+    if clean == i && !wrong { i + 1 } else { clean }
 }
 
-// The first pass: every label within the limits.
-pub(crate) fn collect(text: &[u8], heads: &mut [usize], table: &mut [usize]) -> Tally
-    requires { Linked text.now heads.old table.old 0 }
-    ensures { Collected text.now heads.new table.new result }
+// The first pass: keeps every label within the limits, and finds how many lines stand before the first label that is double or beyond them.
+pub(crate) fn collect(labels: &mut Labels) -> usize
+    requires { labels.old.count ≡ 0 }
+    ensures text { labels.new.text.now ≡ labels.old.text.now }
+    ensures collected { Collected labels.old.text.now labels.new.heads labels.new.table labels.new.count result }
 {
+    let text = labels.text;
     let mut at: usize = 0;
     let mut i: usize = 0;
-    let mut m: usize = 0;
     let mut n: usize = 0;
     let mut clean: usize = 0;
     while at < text.len() {
         let l = line_at(text, at);
         let s = part(text, l.start, l.size);
         let w = label_size(s);
-        let more = named(text, heads, table, m, l.start, w, n);
+        let m = labels.count;
+        named(labels, l.start, w, n);
         n += counts(body(s, w));
-        clean = clean_after(clean, i, (0 < w) & (more == m));
-        m = more;
+        clean = clean_after(clean, i, 0 < w && labels.count == m);
         i += 1;
         at = l.next;
     }
-    Tally { labels: m, clean }
+    clean
 }
 
-// The number that an instruction is refused with; 0 for none.
-fn refusal(r: Read) -> u8
-    ensures { result ≡ fault (meaning r) }
+// The condition that a line breaks, where its instruction breaks this one. 24 goes before 25.
+fn line_fault(
+    wrong: bool,
+    counts: bool,
+    broken: Option<Condition>,
+    n: usize,
+    ended: bool,
+) -> Option<Condition>
+    ensures { number_or_0 result ≡ fault_by wrong counts (number_or_0 broken) n ended }
 {
-    match r {
-        Read::Line(_) => 0,
-        Read::Refused(n) => n,
+    if wrong || (counts && broken == Some(Condition::WrongLabel)) {
+        return Some(Condition::WrongLabel);
     }
-}
-
-// The condition that a line breaks; 0 for none. 24 goes before 25.
-fn line_fault(wrong: bool, counts: bool, number: u8, n: usize, ended: bool) -> u8
-    ensures { result ≡ fault_by wrong counts number n ended }
-{
-    if wrong | (counts & (number == 24)) {
-        return 24;
+    if !ended || (counts && (MAX_ACCEPTED <= n || broken == Some(Condition::NoCounterpart))) {
+        return Some(Condition::NoCounterpart);
     }
-    if !ended {
-        return 25;
-    }
-    if counts & ((MAX_ACCEPTED <= n) | (number == 25)) {
-        return 25;
-    }
-    0
+    None
 }
 
 // The stored number of a target, 16 bits of it: there are more only in a text that is refused.
-fn target_number(aimed: bool, target: usize) -> u16
-    ensures { result ≡ target_number aimed target % 65536 }
+fn target_number(target: Option<usize>) -> u16
+    ensures { result ≡ target_number target % 65536 }
 {
-    if aimed {
-        return ((target % 65536 + 1) % 65536) as u16;
+    match target {
+        Some(line) => ((line % 65536 + 1) % 65536) as u16,
+        None => 0,
     }
-    0
 }
 
 // Stores an instruction that was read as line n; how many lines there are then.
-fn keep(store: &mut [u16], n: usize, r: Read) -> usize
+fn keep(store: &mut [u16], n: usize, r: Result<Instruction, Condition>) -> usize
     requires { line_width * n + length (kept_of (meaning r)) ≤ length store.old }
     ensures { Kept store.old store.new n result (kept_of (meaning r)) }
 {
-    let Read::Line(l) = r else {
+    let Ok(l) = r else {
         return n;
     };
-    let target = target_number(l.aimed, l.target);
     keep_at(
         store,
         n,
@@ -141,7 +108,7 @@ fn keep(store: &mut [u16], n: usize, r: Read) -> usize
             destination: l.destination,
             first: l.first,
             second: l.second,
-            target,
+            target: target_number(l.target),
         },
     );
     n + 1
@@ -149,17 +116,14 @@ fn keep(store: &mut [u16], n: usize, r: Read) -> usize
 
 // The second pass: the lowest text line that breaks a condition, with all labels known; else the counted lines stored, and their count.
 pub(crate) fn convert(
-    text: &[u8],
-    heads: &[usize],
-    table: &[usize],
-    seen: Tally,
+    labels: &Labels,
+    clean: usize,
     store: &mut [u16],
-) -> Converted
-    requires { Collected text.now heads.now table.now seen × (line_width * max_accepted ≤ length store.old) }
-    ensures { Converts text.now store.old store.new result }
+) -> Result<usize, Refusal<usize>>
+    requires { Collected labels.now.text.now labels.now.heads labels.now.table labels.now.count clean × (line_width * max_accepted ≤ length store.old) }
+    ensures { Converts labels.now.text.now store.old store.new result }
 {
-    let m = seen.labels;
-    let clean = seen.clean;
+    let text = labels.text;
     let mut at: usize = 0;
     let mut i: usize = 0;
     let mut n: usize = 0;
@@ -167,17 +131,13 @@ pub(crate) fn convert(
         let l = line_at(text, at);
         let s = part(text, l.start, l.size);
         let b = body(s, label_size(s));
-        let r = parse(text, heads, table, m, b);
-        let fault = line_fault(i == clean, 0 < b.len(), refusal(r), n, l.ended);
-        if fault != 0 {
-            return Converted::Refused {
-                number: fault,
-                line: i,
-            };
+        let r = parse(labels, b);
+        if let Some(condition) = line_fault(i == clean, 0 < b.len(), r.err(), n, l.ended) {
+            return Err(Refusal { condition, line: i });
         }
         n = keep(store, n, r);
         at = l.next;
         i += 1;
     }
-    Converted::Count(n)
+    Ok(n)
 }

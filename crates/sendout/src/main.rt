@@ -6,8 +6,8 @@
 ghost use Rattle.std.specs.Prelude.{◌≡◌, ◌+◌, length};
 ghost use Rattle.filters.specs.Filters.{filter_size, sent_bytes};
 
-use model::Answer;
-use std::io::{self, Read, Write};
+use lines::shared::convert;
+use std::io;
 
 // Room for one byte more than the program reads, so that a longer input is told.
 const INPUT_ROOM: usize = filters::INPUT_SIZE + 1;
@@ -28,14 +28,11 @@ fn output_room() -> [u8; OUTPUT_ROOM]
 }
 
 fn main(rt: HostRuntime) -> io::Result<()> {
-    let mut input = input_room();
-    let n = io::copy(&mut rt.stdin().take(INPUT_ROOM as u64), &mut &mut input[..])?;
-    let mut output = output_room();
-    let answer = filters::print_sent(&input[..INPUT_ROOM.min(n as usize)], &mut output);
-    // The room is enough for every text (proofs/FilterLaws of filters), so 17 is never answered.
-    let Answer::Count(size) = answer else {
-        return Ok(());
-    };
-    let end = size as usize;
-    rt.stdout().write_all(&output[..end])
+    convert(
+        rt.stdin(),
+        rt.stdout(),
+        &mut input_room(),
+        &mut output_room(),
+        filters::print_sent,
+    )
 }

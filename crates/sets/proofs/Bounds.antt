@@ -19,6 +19,7 @@ use Rattle.model.specs.Limits.{state_size}
 use Rattle.model.specs.Places.{State, kind_of, place}
 use Rattle.model.specs.Step.{Row, meaning, row, result, next, bus_after}
 use Rattle.model.proofs.TestLaws.{below}
+use Rattle.std.specs.Prelude.{Ok}
 use Rattle.sets.specs.declared.Verdict.TheVariants.{Balanced, Spent}
 use Rattle.sets.specs.Walk.{Sets, several, values, heads, base, branches, meanings, written, onto, buses, ended, walk}
 use Rattle.sets.specs.Claims.{In, Drawn, Full}
@@ -136,7 +137,7 @@ passed-ended : (p : List Line) (k t : ℕ) → Passed (ended p k t)
 unfolding ended
 passed-ended p k t = go (ltb k (length p))
   where
-    go : (b : Bool) → Passed (cond b (Spent k t) (Balanced k t))
+    go : (b : Bool) → Passed (cond b (Ok (Spent k t)) (Ok (Balanced k t)))
     go true = tt
     go false = tt
 

@@ -23,10 +23,11 @@ use Rattle.model.specs.Marks.{Accepted}
 use Rattle.model.proofs.TestLaws.{and_both, holds}
 use Rattle.model.proofs.CheckAnswers.{CountOrRefusal, counts, refuses, program_answers}
 use Rattle.model.proofs.ExpansionLaws.{expansion_check, expansion_lines}
-use Rattle.sets.specs.declared.Verdict.{Verdict}
-use Rattle.sets.specs.declared.Verdict.TheVariants.{Balanced, Spent, Leak, Refused}
+use Rattle.std.specs.Prelude.{Ok, Err}
+use Rattle.model.specs.declared.Condition.TheVariants.{TooManyValues, WrongLength}
+use Rattle.sets.specs.declared.Verdict.TheVariants.{Balanced, Spent, Leak}
 use Rattle.sets.specs.Walk.{Sets, member, insert, insert_all, distinct, values, max_values, set_width, listed, lists_from, sets_of, sized}
-use Rattle.sets.specs.Walk.{ended, walk, judged, told, verdict_report}
+use Rattle.sets.specs.Walk.{Judged, refused_by, ended, walk, judged, told, verdict_report}
 use Rattle.sets.specs.Claims.{In, Drawn, Clear, Alike, Sound, Images, Full}
 use Rattle.sets.proofs.Members.{first_in, in_some, in_distinct, once_distinct}
 use Rattle.sets.proofs.Sound.{Passed, Foretold, walk_sound}
@@ -78,7 +79,7 @@ module _ (p : List Line) (sets : List ℕ) (n : ℕ) where
   unfolding judged
   judged-right h = go (eqb (length sets) (set_width * state_size)) (sized state_size sets) (eqb→eq (length sets) (set_width * state_size)) h
     where
-      go : (a b : Bool) → (T a → length sets ≡ set_width * state_size) → Passed (cond a (cond b (walk p n 0 0 (sets_of sets) (0 ∷ [])) (Refused 22 0)) (Refused 18 0))
+      go : (a b : Bool) → (T a → length sets ≡ set_width * state_size) → Passed (cond a (cond b (walk p n 0 0 (sets_of sets) (0 ∷ [])) (refused_by TooManyValues 0)) (refused_by WrongLength 0))
           → (length sets ≡ set_width * state_size) × T b
       go true true f h = (f tt, tt)
       go true false f h = absurd h
@@ -88,18 +89,18 @@ module _ (p : List Line) (sets : List ℕ) (n : ℕ) where
   unfolding judged
   judged-walk l h = go (eqb (length sets) (set_width * state_size)) (sized state_size sets) (holds (eq-eqb (length sets) (set_width * state_size) l)) h
     where
-      go : (a b : Bool) → T a → T b → cond a (cond b (walk p n 0 0 (sets_of sets) (0 ∷ [])) (Refused 22 0)) (Refused 18 0) ≡ walk p n 0 0 (sets_of sets) (0 ∷ [])
+      go : (a b : Bool) → T a → T b → cond a (cond b (walk p n 0 0 (sets_of sets) (0 ∷ [])) (refused_by TooManyValues 0)) (refused_by WrongLength 0) ≡ walk p n 0 0 (sets_of sets) (0 ∷ [])
       go true true g h = refl
       go true false g h = absurd h
       go false b g h = absurd g
 
 -- ---- what is told of it
 
-told-passed : (v : Verdict) → Clear (told v) ↔ Passed v
-told-passed (Balanced k t) = (λ h. tt, λ h. omega arith)
-told-passed (Spent k t) = (λ h. tt, λ h. omega arith)
-told-passed (Leak k t) = (λ h. absurd (omega arith), λ h. absurd h)
-told-passed (Refused n k) = (λ h. h, λ h. h)
+told-passed : (v : Judged) → Clear (told v) ↔ Passed v
+told-passed (Ok (Balanced k t)) = (λ h. tt, λ h. omega arith)
+told-passed (Ok (Spent k t)) = (λ h. tt, λ h. omega arith)
+told-passed (Ok (Leak k t)) = (λ h. absurd (omega arith), λ h. absurd h)
+told-passed (Err r) = (λ h. h, λ h. h)
 
 report_told : (p sets : List ℕ) (n m : ℕ) → program_check p ≡ counted m → verdict_report p sets n ≡ told (judged (lines p) sets n)
 unfolding verdict_report
@@ -114,7 +115,7 @@ ended-answer : (p : List Line) (x : Ran) → answer p x ≡ told (ended p x.at (
 unfolding ended answer
 ended-answer p x = go (ltb x.at (length p)) x.at (length x.rows)
   where
-    go : (b : Bool) (k t : ℕ) → cond b (spent k t) (halted k t) ≡ told (cond b (Spent k t) (Balanced k t))
+    go : (b : Bool) (k t : ℕ) → cond b (spent k t) (halted k t) ≡ told (cond b (Ok (Spent k t)) (Ok (Balanced k t)))
     go true k t = refl
     go false k t = refl
 

@@ -22,9 +22,10 @@ use Rattle.model.specs.Places.{State, kind_of, place}
 use Rattle.model.specs.Step.{Row, row, result, next, after, bus_after, meaning, argument, taken, target_line}
 use Rattle.model.specs.Run.{ran, run_on}
 use Rattle.model.proofs.Runs.{stopped, step_run, run-zero}
-use Rattle.sets.specs.declared.Verdict.{Verdict}
-use Rattle.sets.specs.declared.Verdict.TheVariants.{Balanced, Spent, Leak, Refused}
-use Rattle.sets.specs.Walk.{Sets, max_values, several, values, distinct, heads, base, branches, meanings, loose, unsettled, written, steady, onto, buses, ended, walk}
+use Rattle.std.specs.Prelude.{Ok, Err}
+use Rattle.model.specs.declared.Condition.TheVariants.{SeveralValues, TooManyValues}
+use Rattle.sets.specs.declared.Verdict.TheVariants.{Balanced, Spent, Leak}
+use Rattle.sets.specs.Walk.{Judged, refused_by, Sets, max_values, several, values, distinct, heads, base, branches, meanings, loose, unsettled, written, steady, onto, buses, ended, walk}
 use Rattle.sets.specs.Claims.{In, Drawn, Full}
 use Rattle.sets.proofs.Members.{in_some, in_distinct, in_map, settled}
 use Rattle.sets.proofs.DrawnStates.{heads_drawn, drawn_in, full-set, place_by, argument_by, in_written, written_once, in_buses, by_steady, steady-row}
@@ -141,8 +142,8 @@ walk_none p zero k t S bus e = refl
 walk_none p (suc n) k t S bus e = rw (e, walk)
 
 -- the tests of a step, and what comes after where it passes all three
-abbrev pub tested : Bool → Bool → Bool → ℕ → ℕ → Verdict → Verdict
-tested unsettles many same k t later = cond unsettles (Refused 21 k) (cond many (Refused 22 k) (cond same later (Leak k t)))
+abbrev pub tested : Bool → Bool → Bool → ℕ → ℕ → Judged → Judged
+tested unsettles many same k t later = cond unsettles (refused_by SeveralValues k) (cond many (refused_by TooManyValues k) (cond same later (Ok (Leak k t))))
 
 pub walk_some : (p : List Line) (n k t : ℕ) (S : Sets) (bus : List ℕ) (l : Line) → get_elem? p k ≡ some l
     → walk p (suc n) k t S bus
@@ -153,19 +154,19 @@ walk_some p n k t S bus l e = rw (e, walk)
 -- ---- one step
 
 -- balanced or spent
-abbrev pub Passed : Verdict → Type 0
-Passed (Balanced k t) = Unit {0}
-Passed (Spent k t) = Unit {0}
-Passed (Leak k t) = ⊥
-Passed (Refused n k) = ⊥
+abbrev pub Passed : Judged → Type 0
+Passed (Ok (Balanced k t)) = Unit {0}
+Passed (Ok (Spent k t)) = Unit {0}
+Passed (Ok (Leak k t)) = ⊥
+Passed (Err r) = ⊥
 
-tests_passed : (a b c : Bool) (k t : ℕ) (v : Verdict) → Passed (tested a b c k t v) → T (not a) × T (not b) × T c
+tests_passed : (a b c : Bool) (k t : ℕ) (v : Judged) → Passed (tested a b c k t v) → T (not a) × T (not b) × T c
 tests_passed true b c k t v h = absurd h
 tests_passed false true c k t v h = absurd h
 tests_passed false false true k t v h = (tt, tt, tt)
 tests_passed false false false k t v h = absurd h
 
-tests_past : (a b c : Bool) (k t : ℕ) (v : Verdict) → T (not a) → T (not b) → T c → tested a b c k t v ≡ v
+tests_past : (a b c : Bool) (k t : ℕ) (v : Judged) → T (not a) → T (not b) → T c → tested a b c k t v ≡ v
 tests_past true b c k t v h g f = absurd h
 tests_past false true c k t v h g f = absurd g
 tests_past false false true k t v h g f = refl

@@ -2,6 +2,7 @@
 -- Assumes nothing.
 use Rattle.std.specs.Prelude.{Bool, true, false, cond, ◌&&◌, ◌||◌, ℕ, zero, suc, ◌*◌, eqb, ltb, leb, length, get_or, set, take, drop}
 use mathlib.Core.List.{List, [], ◌∷◌, ◌++◌, map, flat_map}
+use Rattle.std.specs.Prelude.{Result, Ok, Err}
 use Rattle.std.proofs.Math.Option.{none, some}
 use Rattle.std.proofs.Math.ListN.{get_elem?}
 use Rattle.model.specs.declared.Mark.{Mark}
@@ -10,13 +11,16 @@ use Rattle.model.specs.declared.Opcode.TheVariants.{Nop, Jmp, Not, Mov, And, Orr
 use Rattle.model.specs.declared.Operand.{Operand}
 use Rattle.model.specs.declared.Operand.TheVariants.{Empty, Literal, Register, Cell, PublicCell, SensitiveCell, TableCell}
 use Rattle.model.specs.declared.Line.{Line}
+use Rattle.model.specs.declared.Condition.{Condition}
+use Rattle.model.specs.declared.Condition.TheVariants.{SeveralValues, TooManyValues, WrongLength}
+use Rattle.model.specs.declared.Refusal.{Refusal}
 use Rattle.model.specs.Limits.{state_size}
-use Rattle.model.specs.Answers.{Report, done, refused, and_then}
+use Rattle.model.specs.Answers.{Report, done, refused, number_of, and_then}
 use Rattle.model.specs.Places.{State, kind_of, place}
 use Rattle.model.specs.Step.{Row, meaning, row, result, next, bus_after}
 use Rattle.model.specs.Stored.{lines, program_check}
 use Rattle.sets.specs.declared.Verdict.{Verdict}
-use Rattle.sets.specs.declared.Verdict.TheVariants.{Balanced, Spent, Leak, Refused}
+use Rattle.sets.specs.declared.Verdict.TheVariants.{Balanced, Spent, Leak}
 
 -- ---- sets: for each place the values that it may have, each once
 
@@ -183,41 +187,48 @@ buses S bus l = distinct (flat_map (λ b. map (λ s. bus_after l s b) (choices S
 
 -- ---- the walk
 
+-- a verdict, or a refusal: 21 is `SeveralValues`, 22 `TooManyValues`, 18 `WrongLength`
+abbrev pub Judged : Type 0
+Judged = Result Verdict (Refusal ℕ)
+
+abbrev pub refused_by : Condition → ℕ → Judged
+refused_by condition line = Err (record { condition = condition; line = line })
+
 -- balanced where a run would be halted, spent where it would be spent
-unfoldable pub ended : List Line → ℕ → ℕ → Verdict
-ended p k t = cond (ltb k (length p)) (Spent k t) (Balanced k t)
+unfoldable pub ended : List Line → ℕ → ℕ → Judged
+ended p k t = cond (ltb k (length p)) (Ok (Spent k t)) (Ok (Balanced k t))
 
 -- up to n steps from counter k, t steps being done; at each step 21, then 22, then the leak test
-unfoldable pub walk : List Line → ℕ → ℕ → ℕ → Sets → List ℕ → Verdict
+unfoldable pub walk : List Line → ℕ → ℕ → ℕ → Sets → List ℕ → Judged
 unfolding unsettled written onto buses steady next ended
 walk p zero k t S bus = ended p k t
 walk p (suc n) k t S bus = elim (get_elem? p k) [
   | none ↦ ended p k t
   | some l ↦
-      cond (unsettled S l) (Refused 21 k)
-      (cond (ltb max_values (length (written S l))) (Refused 22 k)
+      cond (unsettled S l) (refused_by SeveralValues k)
+      (cond (ltb max_values (length (written S l))) (refused_by TooManyValues k)
       (cond (steady S bus l k) (walk p n (next l k (heads S)) (suc t) (onto S l) (buses S bus l))
-      (Leak k t)))
+      (Ok (Leak k t))))
 ]
 
 -- ---- the verdict
 
 -- 18 not 544 sets, 22 an empty or longer set, both at line 0, then the walk from line 0, the bus at 0 as in every run
-unfoldable pub judged : List Line → List ℕ → ℕ → Verdict
+unfoldable pub judged : List Line → List ℕ → ℕ → Judged
 unfolding walk sized insert_all
 judged p sets budget =
     cond (eqb (length sets) (set_width * state_size))
     (cond (sized state_size sets)
     (walk p budget 0 0 (sets_of sets) (0 ∷ []))
-    (Refused 22 0))
-    (Refused 18 0)
+    (refused_by TooManyValues 0))
+    (refused_by WrongLength 0)
 
 -- what each case reports: 0 balanced and 1 spent with counter and steps, as a run, 2 a leak with its line and the steps done before it
-abbrev pub told : Verdict → Report
-told (Balanced counter steps) = done (0 ∷ counter ∷ steps ∷ [])
-told (Spent counter steps) = done (1 ∷ counter ∷ steps ∷ [])
-told (Leak line steps) = done (2 ∷ line ∷ steps ∷ [])
-told (Refused number line) = refused number line
+abbrev pub told : Judged → Report
+told (Ok (Balanced counter steps)) = done (0 ∷ counter ∷ steps ∷ [])
+told (Ok (Spent counter steps)) = done (1 ∷ counter ∷ steps ∷ [])
+told (Ok (Leak line steps)) = done (2 ∷ line ∷ steps ∷ [])
+told (Err r) = refused (number_of r.condition) r.line
 
 -- 7, 3 to 6, then the verdict
 unfoldable pub verdict_report : List ℕ → List ℕ → ℕ → Report

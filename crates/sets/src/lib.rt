@@ -14,12 +14,11 @@ pub const SET_WIDTH: usize = 17;
 // The bytes of the sets of all places.
 pub const SETS_SIZE: usize = SET_WIDTH * STATE_SIZE;
 
-// What the walk answers: balanced or spent, as a run would be halted or spent, with counter and steps; a leak, with the first line where
-// two choices give different rows and the steps done before it; or the number of the condition that holds, and the line.
+// What the walk answers unless it is refused: balanced or spent, as a run would be halted or spent, with counter and steps; or a leak, with
+// the first line where two choices give different rows and the steps done before it.
 #[derive(Clone, Copy)]
 pub enum Verdict {
     Balanced { counter: u16, steps: u16 },
     Spent { counter: u16, steps: u16 },
     Leak { line: u16, steps: u16 },
-    Refused { number: u8, line: u16 },
 }

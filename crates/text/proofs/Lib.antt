@@ -6,3 +6,4 @@ pub mod ScanLaws
 pub mod LineLaws
 pub mod StoreLaws
 pub mod ReadLaws
+pub mod FieldAnswers

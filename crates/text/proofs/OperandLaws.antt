@@ -19,16 +19,15 @@ use Rattle.model.proofs.CutLaws.{digits_clean, up_to_clean, past_clean, rejoin, 
 use Rattle.model.proofs.SpellingLaws.{based, spelled_is}
 use Rattle.model.proofs.RoundTrip.{no_text}
 use Rattle.text.specs.Fields.{found, read_number, shift, joined, read_indirect, read_direct, read_kind}
-use Rattle.text.specs.declared.Field.{Field}
-use Rattle.text.specs.declared.Field.TheVariants.{Is, Wrong}
+use Rattle.std.specs.Prelude.{Option as Field, Some, None}
 use Rattle.text.proofs.DigitLaws.{never, number_below, number_decimal, decimal_number}
 
 -- a whole operand, and a target
-unfoldable pub read_operand : List ℕ → Field
-read_operand s = cond (eqb (length s) 0) (Is 0) (read_kind (get_or s 0 0) (drop 1 s))
+unfoldable pub read_operand : List ℕ → Field ℕ
+read_operand s = cond (eqb (length s) 0) (Some 0) (read_kind (get_or s 0 0) (drop 1 s))
 
-unfoldable pub read_target : List ℕ → Field
-read_target s = cond (eqb (length s) 0) (Is 0) (shift 1 (read_number (max_lines + 1) s))
+unfoldable pub read_target : List ℕ → Field ℕ
+read_target s = cond (eqb (length s) 0) (Some 0) (shift 1 (read_number (max_lines + 1) s))
 
 -- a field that is not empty
 pub filled : (c : ℕ) (x : List ℕ) → eqb (length (c ∷ x)) 0 ≡ false
@@ -36,7 +35,7 @@ filled c x = ne_eqb (length (c ∷ x)) 0 (λ e. omega arith)
 
 -- ---- spelled, then read
 
-based_read : (w b k : ℕ) → b < 32 → k < w → w ≤ 256 → read_indirect w (based b k) ≡ Is (w * b + k)
+based_read : (w b k : ℕ) → b < 32 → k < w → w ≤ 256 → read_indirect w (based b k) ≡ Some (w * b + k)
 unfolding read_indirect joined
 based_read w b k hb hk hw =
     let c = digits_clean 43 (decimal b) (omega arith) (decimal_digits b) in
@@ -62,9 +61,9 @@ spell (public b n hb hn e) = 33 ∷ based b n
 spell (sensitive b n hb hn e) = 37 ∷ based b n
 spell (table b n hb hn e) = 94 ∷ based b n
 
-spell_read : {k : ℕ} (r : Range k) → read_operand (spell r) ≡ Is k
+spell_read : {k : ℕ} (r : Range k) → read_operand (spell r) ≡ Some k
 unfolding spell read_operand read_kind read_direct shift
-spell_read (empty e) = ap Is (sym e)
+spell_read (empty e) = ap Some (sym e)
 spell_read (literal n h e) = rw (filled 35 (decimal n), number_decimal 256 n h (omega arith), e)
 spell_read (register n h e) = rw (filled 114 (decimal n), number_decimal 32 n h (omega arith), e)
 spell_read (cell n h e) = rw (filled 64 (decimal n), number_decimal 512 n h (omega arith), e)
@@ -150,32 +149,32 @@ record Shown (s : List ℕ) (k : ℕ) : Type 0 where
   kind : Range k
   text : spell kind ≡ s
 
-pub data Shifted (m : ℕ) (x : Field) (k : ℕ) : Type 0 where
-  by_shift : (j : ℕ) → x ≡ Is j → k ≡ m + j → Shifted m x k
+pub data Shifted (m : ℕ) (x : Field ℕ) (k : ℕ) : Type 0 where
+  by_shift : (j : ℕ) → x ≡ Some j → k ≡ m + j → Shifted m x k
 
-pub shift_back : (m : ℕ) (x : Field) (k : ℕ) → shift m x ≡ Is k → Shifted m x k
+pub shift_back : (m : ℕ) (x : Field ℕ) (k : ℕ) → shift m x ≡ Some k → Shifted m x k
 unfolding shift
-shift_back m (Is j) k e = by_shift j refl cc
-shift_back m Wrong k e = absurd (never e)
+shift_back m (Some j) k e = by_shift j refl cc
+shift_back m None k e = absurd (never e)
 
-data Joined (w : ℕ) (x y : Field) (k : ℕ) : Type 0 where
-  by_join : (b o : ℕ) → x ≡ Is b → y ≡ Is o → k ≡ w * b + o → Joined w x y k
+data Joined (w : ℕ) (x y : Field ℕ) (k : ℕ) : Type 0 where
+  by_join : (b o : ℕ) → x ≡ Some b → y ≡ Some o → k ≡ w * b + o → Joined w x y k
 
-join_back : (w : ℕ) (x y : Field) (k : ℕ) → joined w x y ≡ Is k → Joined w x y k
+join_back : (w : ℕ) (x y : Field ℕ) (k : ℕ) → joined w x y ≡ Some k → Joined w x y k
 unfolding joined
-join_back w (Is b) (Is o) k e = by_join b o refl refl cc
-join_back w (Is b) Wrong k e = absurd (never e)
-join_back w Wrong y k e = absurd (never e)
+join_back w (Some b) (Some o) k e = by_join b o refl refl cc
+join_back w (Some b) None k e = absurd (never e)
+join_back w None y k e = absurd (never e)
 
 -- an indirect operand after its sign
 data Based (w : ℕ) (t : List ℕ) (j : ℕ) : Type 0 where
   by_base : (b o : ℕ) → b < 32 → o < w → based b o ≡ t → j ≡ w * b + o → Based w t j
 
-pub cond_is : (t : Bool) (x : Field) (k : ℕ) → cond t x Wrong ≡ Is k → (t ≡ true) × (x ≡ Is k)
+pub cond_is : (t : Bool) (x : Field ℕ) (k : ℕ) → cond t x None ≡ Some k → (t ≡ true) × (x ≡ Some k)
 cond_is true x k e = (refl, e)
 cond_is false x k e = absurd (never e)
 
-no_number : (w : ℕ) (t : List ℕ) (o : ℕ) → t ≡ [] → read_number w t ≡ Is o → ⊥
+no_number : (w : ℕ) (t : List ℕ) (o : ℕ) → t ≡ [] → read_number w t ≡ Some o → ⊥
 unfolding read_number
 no_number w t o q e = never (rw q at e)
 
@@ -188,7 +187,7 @@ based-back w t j hw hm (by_join b o p q e) =
     (ap (λ (l : List ℕ). 114 ∷ (l ++ (43 ∷ decimal o))) base ∙ ap (λ (l : List ℕ). 114 ∷ (up_to 43 t ++ (43 ∷ l))) offset ∙ ap (λ (l : List ℕ). 114 ∷ l) (sym (rejoin 43 t some)))
     e
 
-indirect-back : (w : ℕ) (t : List ℕ) (j : ℕ) → 0 < w → w ≤ 256 → read_indirect w t ≡ Is j → Based w t j
+indirect-back : (w : ℕ) (t : List ℕ) (j : ℕ) → 0 < w → w ≤ 256 → read_indirect w t ≡ Some j → Based w t j
 unfolding read_indirect
 indirect-back w [] j hw hm e = absurd (never e)
 indirect-back w (c ∷ t) j hw hm e =
@@ -234,17 +233,17 @@ module _ (t : List ℕ) (k : ℕ) where
   table_back (by_shift j p e) = table_at j e (indirect-back 256 t j (omega arith) (omega arith) p)
 
 -- one of three tests, or what is left
-module _ (P : Type 0) (k : ℕ) (u v w x : Field) where
-  three : (a b c : Bool) → cond a u (cond b v (cond c w x)) ≡ Is k → (a ≡ true → u ≡ Is k → P) → (b ≡ true → v ≡ Is k → P) → (c ≡ true → w ≡ Is k → P) → (x ≡ Is k → P) → P
+module _ (P : Type 0) (k : ℕ) (u v w x : Field ℕ) where
+  three : (a b c : Bool) → cond a u (cond b v (cond c w x)) ≡ Some k → (a ≡ true → u ≡ Some k → P) → (b ≡ true → v ≡ Some k → P) → (c ≡ true → w ≡ Some k → P) → (x ≡ Some k → P) → P
   three true b c q A B C D = A refl q
   three false true c q A B C D = B refl q
   three false false true q A B C D = C refl q
   three false false false q A B C D = D q
 
-direct_back : (c : ℕ) (t : List ℕ) (k : ℕ) → read_direct c t ≡ Is k → Shown (c ∷ t) k
+direct_back : (c : ℕ) (t : List ℕ) (k : ℕ) → read_direct c t ≡ Some k → Shown (c ∷ t) k
 unfolding read_direct
 direct_back c t k q =
-    three (Shown (c ∷ t) k) k (shift 1 (read_number 256 t)) (shift 257 (read_number 32 t)) (shift 289 (read_number 512 t)) Wrong (eqb c 35) (eqb c 114) (eqb c 64) q
+    three (Shown (c ∷ t) k) k (shift 1 (read_number 256 t)) (shift 257 (read_number 32 t)) (shift 289 (read_number 512 t)) None (eqb c 35) (eqb c 114) (eqb c 64) q
     (λ a e. rw (eqb-true c 35 a) (literal_back t k (shift_back _ _ k e)))
     (λ a e. rw (eqb-true c 114 a) (register_back t k (shift_back _ _ k e)))
     (λ a e. rw (eqb-true c 64 a) (cell_back t k (shift_back _ _ k e)))
@@ -253,19 +252,19 @@ direct_back c t k q =
 shifted_below : (m n : ℕ) (t : List ℕ) (k : ℕ) → 0 < n → Shifted m (read_number n t) k → k < m + n
 shifted_below m n t k h (by_shift j p e) = omega (arith, number_below n t j h p, e)
 
-pub direct_below : (c : ℕ) (t : List ℕ) (k : ℕ) → read_direct c t ≡ Is k → k < publics
+pub direct_below : (c : ℕ) (t : List ℕ) (k : ℕ) → read_direct c t ≡ Some k → k < publics
 unfolding read_direct
 direct_below c t k q =
-    three (k < publics) k (shift 1 (read_number 256 t)) (shift 257 (read_number 32 t)) (shift 289 (read_number 512 t)) Wrong (eqb c 35) (eqb c 114) (eqb c 64) q
+    three (k < publics) k (shift 1 (read_number 256 t)) (shift 257 (read_number 32 t)) (shift 289 (read_number 512 t)) None (eqb c 35) (eqb c 114) (eqb c 64) q
     (λ a e. omega (arith, shifted_below 1 256 t k (omega arith) (shift_back _ _ k e)))
     (λ a e. omega (arith, shifted_below 257 32 t k (omega arith) (shift_back _ _ k e)))
     (λ a e. omega (arith, shifted_below 289 512 t k (omega arith) (shift_back _ _ k e)))
     (λ e. absurd (never e))
 
-pub direct_spelled : (c : ℕ) (t : List ℕ) (k : ℕ) → read_direct c t ≡ Is k → spell_operand (operand_of k) ≡ c ∷ t
+pub direct_spelled : (c : ℕ) (t : List ℕ) (k : ℕ) → read_direct c t ≡ Some k → spell_operand (operand_of k) ≡ c ∷ t
 direct_spelled c t k q = let o = direct_back c t k q in spell_model o.kind ∙ o.text
 
-kind-back : (c : ℕ) (t : List ℕ) (k : ℕ) → read_kind c t ≡ Is k → Shown (c ∷ t) k
+kind-back : (c : ℕ) (t : List ℕ) (k : ℕ) → read_kind c t ≡ Some k → Shown (c ∷ t) k
 unfolding read_kind
 kind-back c t k q =
     three (Shown (c ∷ t) k) k (shift 801 (read_indirect 128 t)) (shift 4897 (read_indirect 128 t)) (shift 8993 (read_indirect 256 t)) (read_direct c t) (eqb c 33) (eqb c 37) (eqb c 94) q
@@ -274,16 +273,16 @@ kind-back c t k q =
     (λ a e. rw (eqb-true c 94 a) (table_back t k (shift_back _ _ k e)))
     (direct_back c t k)
 
-operand_shown : (s : List ℕ) (k : ℕ) → read_operand s ≡ Is k → Shown s k
+operand_shown : (s : List ℕ) (k : ℕ) → read_operand s ≡ Some k → Shown s k
 unfolding read_operand spell
 operand_shown [] k e = record { kind = empty cc; text = refl }
 operand_shown (c ∷ t) k e = kind-back c t k (rw (filled c t) at e)
 
 -- ---- exactly the spelling
 
-pub found_is : (x : Field) (k : ℕ) → found x ≡ some k → x ≡ Is k
-found_is (Is j) k e = let q : j ≡ k = cc in ap Is q
-found_is Wrong k e = let z : ◌≡◌ {A = ℕ} 0 1 = cc in absurd (omega arith)
+pub found_is : (x : Field ℕ) (k : ℕ) → found x ≡ some k → x ≡ Some k
+found_is (Some j) k e = let q : j ≡ k = cc in ap Some q
+found_is None k e = let z : ◌≡◌ {A = ℕ} 0 1 = cc in absurd (omega arith)
 
 module _ (s : List ℕ) (k : ℕ) where
   pub operand_spelled : found (read_operand s) ≡ some k → (k < operands) × (spell_operand (operand_of k) ≡ s)
@@ -305,18 +304,18 @@ target_spelling k = by (eqb k 0) refl
     by true e = rw e
     by false e = rw e
 
-target_read : (k : ℕ) → k < targets → read_target (cond (eqb k 0) [] (decimal (k - 1))) ≡ Is k
+target_read : (k : ℕ) → k < targets → read_target (cond (eqb k 0) [] (decimal (k - 1))) ≡ Some k
 unfolding read_target shift
 target_read k h = by (eqb k 0) refl
   where
-    by : (t : Bool) → eqb k 0 ≡ t → read_target (cond (eqb k 0) [] (decimal (k - 1))) ≡ Is k
+    by : (t : Bool) → eqb k 0 ≡ t → read_target (cond (eqb k 0) [] (decimal (k - 1))) ≡ Some k
     by true e = rw (e, eqb-true k 0 e)
     by false e =
         let f = eqb-false k 0 e in
         let q : 1 + (k - 1) ≡ k = omega arith in
         rw (e, ne_eqb (length (decimal (k - 1))) 0 (λ z. omega (arith, decimal_some (k - 1))), number_decimal (max_lines + 1) (k - 1) (omega arith) (omega arith), q)
 
-target_cases : (t : Bool) (x : Field) (k : ℕ) → cond t (Is 0) x ≡ Is k → ((t ≡ true) × (k ≡ 0)) ⊎ ((t ≡ false) × (x ≡ Is k))
+target_cases : (t : Bool) (x : Field ℕ) (k : ℕ) → cond t (Some 0) x ≡ Some k → ((t ≡ true) × (k ≡ 0)) ⊎ ((t ≡ false) × (x ≡ Some k))
 target_cases true x k e = inl (refl, cc)
 target_cases false x k e = inr (refl, e)
 
@@ -327,7 +326,7 @@ target_at s k (by_shift j p e) =
       rw (ne_eqb k 0 (λ z. omega arith), m) (decimal_number (max_lines + 1) s j (omega arith) (omega arith) p),
     )
 
-target_shown : (s : List ℕ) (k : ℕ) → read_target s ≡ Is k → (k < targets) × (cond (eqb k 0) [] (decimal (k - 1)) ≡ s)
+target_shown : (s : List ℕ) (k : ℕ) → read_target s ≡ Some k → (k < targets) × (cond (eqb k 0) [] (decimal (k - 1)) ≡ s)
 unfolding read_target
 target_shown s k e =
     ⊎_elim

@@ -28,8 +28,9 @@ byte_there s i c h e = rw (add-one, drop-cons s i 0 h, e)
 digit_there : (s : List ℕ) (i : ℕ) → i < length s → 48 ≤ get_or s i 0 → drop i s ≡ (48 + (get_or s i 0 - 48)) ∷ drop (i + 1) s
 digit_there s i h l = byte_there s i (48 + (get_or s i 0 - 48)) h (omega arith)
 
-pub first_digit : (s : List ℕ) (i : ℕ) → i < length s → 48 ≤ get_or s i 0 → get_or s i 0 ≤ 57 → decimal (get_or s i 0 - 48) ++ drop (i + 1) s ≡ drop i s
-first_digit s i h l m = ap (λ (x : List ℕ). x ++ drop (i + 1) s) (decimal_digit (get_or s i 0 - 48) (omega arith)) ∙ sym (digit_there s i h l)
+pub first_digit : (s : List ℕ) (i b : ℕ) → i < length s → b ≡ get_or s i 0 → 48 ≤ b → b ≤ 57 → decimal (b - 48) ++ drop (i + 1) s ≡ drop i s
+first_digit s i b h e l m =
+    ap (λ (x : List ℕ). x ++ drop (i + 1) s) (decimal_digit (b - 48) (omega arith)) ∙ ap (λ (x : ℕ). (48 + (x - 48)) ∷ drop (i + 1) s) e ∙ sym (digit_there s i h (omega arith))
 
 pub next_digit : (text s : List ℕ) (k i : ℕ) → i < length s → 0 < k → 48 ≤ get_or s i 0 → get_or s i 0 ≤ 57 → 10 * k + (get_or s i 0 - 48) < 100000
     → decimal k ++ drop i s ≡ text → decimal (10 * k + (get_or s i 0 - 48)) ++ drop (i + 1) s ≡ text
@@ -47,7 +48,7 @@ number_there text n more s k i r h e a p =
 pub zero_there : (n more : ℕ) (s : List ℕ) (at r : ℕ) → 0 < n → at < length s → get_or s at 0 ≡ 48 → (position_of r ≡ at + 1) × (number_of r ≡ more) → Numbered (drop at s) n more s r
 zero_there n more s at r p h e a =
     let q : 0 ≡ get_or s at 0 - 48 = omega arith in
-    number_there (drop at s) n more s 0 (at + 1) r p (ap (λ (j : ℕ). decimal j ++ drop (at + 1) s) q ∙ first_digit s at h (omega arith) (omega arith)) (a.0, omega (arith, a.1))
+    number_there (drop at s) n more s 0 (at + 1) r p (ap (λ (j : ℕ). decimal j ++ drop (at + 1) s) q ∙ first_digit s at (get_or s at 0) h refl (omega arith) (omega arith)) (a.0, omega (arith, a.1))
 
 -- ---- operands
 

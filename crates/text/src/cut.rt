@@ -6,14 +6,12 @@ ghost use Rattle.model.specs.Text.{up_to, count_of};
 pub fn find(s: &[u8], c: u8) -> usize
     ensures { (result ≡ length (up_to c s.now)) × (result ≤ length s.now) }
 {
-    let mut i: usize = 0;
-    while i < s.len() {
+    for i in 0..s.len() {
         if s[i] == c {
             return i;
         }
-        i += 1;
     }
-    i
+    s.len()
 }
 
 // What stands after the byte at n: nothing where there is none.
@@ -28,13 +26,5 @@ pub fn beyond(s: &[u8], n: usize) -> &[u8]
 pub(crate) fn count(s: &[u8], c: u8) -> usize
     ensures { result ≡ count_of c s.now }
 {
-    let mut n: usize = 0;
-    let mut i: usize = 0;
-    while i < s.len() {
-        if s[i] == c {
-            n += 1;
-        }
-        i += 1;
-    }
-    n
+    s.iter().filter(|b| **b == c).count()
 }

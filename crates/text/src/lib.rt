@@ -14,16 +14,9 @@ pub mod line;
 mod scanning;
 
 use crate::cut::{beyond, find};
-use crate::line::{front, refusal};
+use crate::line::front;
 use crate::scanning::take;
-use model::{Answer, LINE_WIDTH, MAX_LINES};
-
-// What reading a field finds: the field's stored number, or that its spelling is wrong.
-#[derive(Clone, Copy)]
-pub enum Field {
-    Is(u16),
-    Wrong,
-}
+use model::{Condition, LINE_WIDTH, MAX_LINES, Refusal};
 
 // The six stored numbers of a line.
 #[derive(Clone, Copy)]
@@ -36,22 +29,14 @@ pub struct Stored {
     pub target: u16,
 }
 
-// What parsing a line finds: its numbers, or the number of the condition that holds.
-#[derive(Clone, Copy)]
-pub enum Parsed {
-    Line(Stored),
-    Refused(u8),
-}
-
 // The line at a position of a text.
-pub fn front_at(text: &[u8], at: usize) -> Parsed
+#[tactic(auto, using(crate::proofs::LineLaws::front_none))]
+pub fn front_at(text: &[u8], at: usize) -> Result<Stored, Condition>
     ensures { meaning result ≡ front_line (drop at text.now) }
 {
-    if at <= text.len() {
-        let rest = &text[at..];
-        front(rest, find(rest, b'\n'))
-    } else {
-        Parsed::Refused(1)
+    match text.get(at..) {
+        Some(rest) => front(rest, find(rest, b'\n')),
+        None => Err(Condition::NoNewline),
     }
 }
 
@@ -79,7 +64,7 @@ pub fn keep_at(store: &mut [u16], n: usize, l: Stored)
 
 // Reads the lines of a text into a store. Each line is read from the front, and the rest of the text is handed on as a part. A correct
 // line is taken in one pass; of any other `front` says which condition holds.
-pub fn read(text: &[u8], store: &mut [u16]) -> Answer
+pub fn read(text: &[u8], store: &mut [u16]) -> Result<u32, Refusal>
     ensures { outcome (report result) (store.new ∷ []) ≡ read_outcome text.now store.old }
 {
     let room = store.len() / LINE_WIDTH;
@@ -87,36 +72,34 @@ pub fn read(text: &[u8], store: &mut [u16]) -> Answer
     let mut n: usize = 0;
     while 0 < rest.len() {
         if MAX_LINES <= n {
-            return Answer::Refused {
-                number: 7,
+            return Err(Refusal {
+                condition: Condition::TooManyLines,
                 line: n as u16,
-            };
+            });
         }
         if room <= n {
-            return Answer::Refused {
-                number: 8,
+            return Err(Refusal {
+                condition: Condition::StoreFull,
                 line: n as u16,
-            };
+            });
         }
         let bytes = take(rest, store, LINE_WIDTH * n);
         if 0 < bytes {
-            let next = beyond(rest, bytes - 1);
-            rest = next;
+            rest = beyond(rest, bytes - 1);
             n += 1;
         } else {
             let end = find(rest, b'\n');
             let got = front(rest, end);
-            let Parsed::Line(l) = got else {
-                return Answer::Refused {
-                    number: refusal(got),
+            let Ok(l) = got else {
+                return Err(Refusal {
+                    condition: got.unwrap_err(),
                     line: n as u16,
-                };
+                });
             };
             keep(store, LINE_WIDTH * n, l);
-            let next = beyond(rest, end);
-            rest = next;
+            rest = beyond(rest, end);
             n += 1;
         }
     }
-    Answer::Count(n as u32)
+    Ok(n as u32)
 }

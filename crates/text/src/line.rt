@@ -2,41 +2,30 @@
 ghost use Rattle.std.specs.Prelude.{◌≡◌, length};
 ghost use Rattle.model.specs.Stored.{parsed};
 ghost use Rattle.model.specs.Text.{newline, up_to, mark_field, opcode_field, operand_field, target_field, parsed_text, front_line};
-ghost use Rattle.text.specs.Lines.{meaning, refusal_of};
+ghost use Rattle.text.specs.Lines.{meaning};
 
+use crate::Stored;
 use crate::cut::{beyond, count, find};
 use crate::fields::{destination, mark, opcode, operand, target};
-use crate::{Field, Parsed, Stored};
+use model::Condition;
 
 // The first bytes of a line among which its newline must be.
 pub(crate) const LINE_REACH: usize = 41;
 
 // The six fields: 3 mark, 4 opcode, 5 which fields are filled, 6 operands and target.
-fn fields(m: &[u8], o: &[u8], d: &[u8], a: &[u8], b: &[u8], t: &[u8]) -> Parsed
+fn fields(m: &[u8], o: &[u8], d: &[u8], a: &[u8], b: &[u8], t: &[u8]) -> Result<Stored, Condition>
     ensures { meaning result ≡ parsed (mark_field m.now) (opcode_field o.now) (operand_field d.now) (operand_field a.now) (operand_field b.now) (target_field t.now) }
 {
-    let Field::Is(mark) = mark(m) else {
-        return Parsed::Refused(3);
-    };
-    let Field::Is(opcode) = opcode(o) else {
-        return Parsed::Refused(4);
-    };
+    let mark = mark(m).ok_or(Condition::UnknownMark)?;
+    let opcode = opcode(o).ok_or(Condition::UnknownOpcode)?;
     if !coding::is_shaped(opcode, 0 < d.len(), 0 < a.len(), 0 < b.len(), 0 < t.len()) {
-        return Parsed::Refused(5);
+        return Err(Condition::WrongFields);
     }
-    let Field::Is(destination) = destination(d) else {
-        return Parsed::Refused(6);
-    };
-    let Field::Is(first) = operand(a) else {
-        return Parsed::Refused(6);
-    };
-    let Field::Is(second) = operand(b) else {
-        return Parsed::Refused(6);
-    };
-    let Field::Is(target) = target(t) else {
-        return Parsed::Refused(6);
-    };
-    Parsed::Line(Stored {
+    let destination = destination(d).ok_or(Condition::WrongOperand)?;
+    let first = operand(a).ok_or(Condition::WrongOperand)?;
+    let second = operand(b).ok_or(Condition::WrongOperand)?;
+    let target = target(t).ok_or(Condition::WrongOperand)?;
+    Ok(Stored {
         mark,
         opcode,
         destination,
@@ -47,11 +36,11 @@ fn fields(m: &[u8], o: &[u8], d: &[u8], a: &[u8], b: &[u8], t: &[u8]) -> Parsed
 }
 
 // A line without its newline: 2 not five commas, then 3 to 6.
-fn parse(s: &[u8]) -> Parsed
+fn parse(s: &[u8]) -> Result<Stored, Condition>
     ensures { meaning result ≡ parsed_text s.now }
 {
     if count(s, b',') != 5 {
-        return Parsed::Refused(2);
+        return Err(Condition::NotFiveCommas);
     }
     let n = find(s, b',');
     let s1 = beyond(s, n);
@@ -67,25 +56,12 @@ fn parse(s: &[u8]) -> Parsed
 }
 
 // The line at the front of a text with n bytes before its first newline: 1 no newline in its first 41 bytes, or none at all.
-pub(crate) fn front(text: &[u8], n: usize) -> Parsed
+pub(crate) fn front(text: &[u8], n: usize) -> Result<Stored, Condition>
     requires { n ≡ length (up_to newline text.now) }
     ensures { meaning result ≡ front_line text.now }
 {
-    if LINE_REACH <= n {
-        return Parsed::Refused(1);
-    }
-    if text.len() <= n {
-        return Parsed::Refused(1);
+    if LINE_REACH <= n || text.len() <= n {
+        return Err(Condition::NoNewline);
     }
     parse(&text[..n])
-}
-
-// The number that a line is refused with.
-pub fn refusal(p: Parsed) -> u8
-    ensures { result ≡ refusal_of p }
-{
-    match p {
-        Parsed::Line(_) => 0,
-        Parsed::Refused(n) => n,
-    }
 }

@@ -1,6 +1,7 @@
 // A correct line read in one pass. A scan answers one number, 65,536 times the position where it ended and the stored number that it found,
-// or 0: a number is handed on in a register, an enum through memory. What was found is spelled there, so that scans that meet are a line.
-ghost use Rattle.std.specs.Prelude.{◌≡◌, cond, ◌∷◌, ◌++◌, ◌+◌, ◌≤◌, ◌<◌, ltb, length, drop};
+// or 0, and no Option: a number is handed on in a register, an enum through memory. What was found is spelled there, so that scans that meet
+// are a line.
+ghost use Rattle.std.specs.Prelude.{◌≡◌, ◌∷◌, ◌++◌, ◌+◌, ◌≤◌, ◌<◌, length, drop};
 ghost use Rattle.model.specs.Limits.{line_reach};
 ghost use Rattle.model.specs.Stored.{operand_of};
 ghost use Rattle.model.specs.Text.{comma, decimal, spell_operand};
@@ -8,7 +9,7 @@ ghost use Rattle.text.specs.Scanning.{position_of, number_of, Scanned, Numbered,
 
 use crate::fields::{LINE_NUMBERS, mark, opcode};
 use crate::line::LINE_REACH;
-use crate::{Field, Stored, keep};
+use crate::{Stored, keep};
 use coding::{CELLS, LITERALS, PUBLICS, REGISTERS, SENSITIVES, TABLES, fault_of};
 
 // A scan's answer.
@@ -39,13 +40,9 @@ fn digits(s: &[u8], at: usize, v: u16, n: u16, more: u16) -> u32
     ensures { Numbered (decimal v ++ drop at s.now) n more s.now result }
 {
     let mut k: u16 = v;
-    let mut i: usize = at;
-    while i < s.len() {
+    for i in at..s.len() {
         let b = s[i];
-        if b < b'0' {
-            return answer(i, more + k);
-        }
-        if b'9' < b {
+        if b < b'0' || b'9' < b {
             return answer(i, more + k);
         }
         let next = 10 * (k as u32) + ((b - b'0') as u32);
@@ -53,9 +50,8 @@ fn digits(s: &[u8], at: usize, v: u16, n: u16, more: u16) -> u32
             return 0;
         }
         k = next as u16;
-        i += 1;
     }
-    answer(i, more + k)
+    answer(s.len(), more + k)
 }
 
 // A number below n, in decimal with no leading zero, and more.
@@ -63,20 +59,11 @@ fn number(s: &[u8], at: usize, n: u16, more: u16) -> u32
     requires { (length s.now ≤ line_reach) × ((10 ≤ n) × (n + more < 65536)) }
     ensures { Numbered (drop at s.now) n more s.now result }
 {
-    if s.len() <= at {
-        return 0;
+    match s.get(at) {
+        Some(b'0') => answer(at + 1, more),
+        Some(b @ b'1'..=b'9') => digits(s, at + 1, (*b - b'0') as u16, n, more),
+        _ => 0,
     }
-    let b = s[at];
-    if b < b'0' {
-        return 0;
-    }
-    if b'9' < b {
-        return 0;
-    }
-    if b == b'0' {
-        return answer(at + 1, more);
-    }
-    digits(s, at + 1, (b - b'0') as u16, n, more)
 }
 
 // `rN+k` with k below w, and more.
@@ -84,23 +71,17 @@ fn indirect(s: &[u8], at: usize, w: u16, more: u16) -> u32
     requires { (length s.now ≤ line_reach) × ((10 ≤ w) × ((w ≤ 256) × (more < 20000))) }
     ensures { Based w more s.now at result }
 {
-    if s.len() <= at {
+    let Some(b'r') = s.get(at) else {
         return 0;
-    }
-    if s[at] != b'r' {
-        return 0;
-    }
+    };
     let base = number(s, at + 1, 32, 0);
     if base == 0 {
         return 0;
     }
     let plus = position(base);
-    if s.len() <= plus {
+    let Some(b'+') = s.get(plus) else {
         return 0;
-    }
-    if s[plus] != b'+' {
-        return 0;
-    }
+    };
     number(s, plus + 1, w, more + w * found(base))
 }
 
@@ -109,29 +90,16 @@ fn operand(s: &[u8], at: usize) -> u32
     requires { length s.now ≤ line_reach }
     ensures { Scanned (λ k. spell_operand (operand_of k)) s.now at result }
 {
-    if s.len() <= at {
-        return 0;
+    match s.get(at) {
+        Some(b'#') => number(s, at + 1, 256, LITERALS),
+        Some(b'r') => number(s, at + 1, 32, REGISTERS),
+        Some(b'@') => number(s, at + 1, 512, CELLS),
+        Some(b'!') => indirect(s, at + 1, 128, PUBLICS),
+        Some(b'%') => indirect(s, at + 1, 128, SENSITIVES),
+        Some(b'^') => indirect(s, at + 1, 256, TABLES),
+        Some(_) => answer(at, 0),
+        None => 0,
     }
-    let c = s[at];
-    if c == b'#' {
-        return number(s, at + 1, 256, LITERALS);
-    }
-    if c == b'r' {
-        return number(s, at + 1, 32, REGISTERS);
-    }
-    if c == b'@' {
-        return number(s, at + 1, 512, CELLS);
-    }
-    if c == b'!' {
-        return indirect(s, at + 1, 128, PUBLICS);
-    }
-    if c == b'%' {
-        return indirect(s, at + 1, 128, SENSITIVES);
-    }
-    if c == b'^' {
-        return indirect(s, at + 1, 256, TABLES);
-    }
-    answer(at, 0)
 }
 
 // A comma and an operand.
@@ -139,13 +107,10 @@ fn listed(s: &[u8], at: usize) -> u32
     requires { length s.now ≤ line_reach }
     ensures { Scanned (λ k. comma ∷ spell_operand (operand_of k)) s.now at result }
 {
-    if s.len() <= at {
-        return 0;
+    match s.get(at) {
+        Some(b',') => operand(s, at + 1),
+        _ => 0,
     }
-    if s[at] != b',' {
-        return 0;
-    }
-    operand(s, at + 1)
 }
 
 // A comma, a target and a newline; the position is that of the newline.
@@ -153,29 +118,19 @@ fn ending(s: &[u8], at: usize) -> u32
     requires { length s.now ≤ line_reach }
     ensures { Ended s.now at result }
 {
-    if s.len() <= at {
+    let Some(b',') = s.get(at) else {
         return 0;
-    }
-    if s[at] != b',' {
-        return 0;
-    }
+    };
     let start = at + 1;
-    if s.len() <= start {
-        return 0;
-    }
-    if s[start] == b'\n' {
+    if let Some(b'\n') = s.get(start) {
         return answer(start, 0);
     }
     // Where there is none, 0 is given, whatever stands at position 0.
     let target = number(s, start, LINE_NUMBERS, 1);
-    let end = position(target);
-    if s.len() <= end {
-        return 0;
+    match s.get(position(target)) {
+        Some(b'\n') => target,
+        _ => 0,
     }
-    if s[end] != b'\n' {
-        return 0;
-    }
-    target
 }
 
 // The operands and the target of a line whose mark and opcode have the numbers m and o. Where the line is correct its numbers are
@@ -204,7 +159,7 @@ fn operands(s: &[u8], m: u16, o: u16, store: &mut [u16], at: usize) -> usize
     let first = found(a);
     let second = found(b);
     let target = found(t);
-    if fault_of(m, o, destination, first, second, target) != 0 {
+    if fault_of(m, o, destination, first, second, target).is_some() {
         return 0;
     }
     let line = Stored {
@@ -219,30 +174,23 @@ fn operands(s: &[u8], m: u16, o: u16, store: &mut [u16], at: usize) -> usize
     position(t) + 1
 }
 
-// The lesser of two.
-fn lesser(a: usize, b: usize) -> usize
-    ensures { (result ≡ cond (ltb a b) a b) × (result ≤ a) × (result ≤ b) }
-{
-    if a < b { a } else { b }
-}
-
 // Stores the numbers of the line at the front of a text, where it is correct; gives its bytes with its newline, else 0.
 pub(crate) fn take(text: &[u8], store: &mut [u16], at: usize) -> usize
     requires { at + 6 ≤ length store.old }
     ensures { Took text.now store.old store.new at result }
 {
-    let reach = lesser(text.len(), LINE_REACH);
+    let reach = text.len().min(LINE_REACH);
     if reach < 5 {
         return 0;
     }
     let s = &text[..reach];
-    let Field::Is(m) = mark(&s[..1]) else {
+    let Some(m) = mark(&s[..1]) else {
         return 0;
     };
     if s[1] != b',' {
         return 0;
     }
-    let Field::Is(o) = opcode(&s[2..5]) else {
+    let Some(o) = opcode(&s[2..5]) else {
         return 0;
     };
     operands(s, m, o, store, at)

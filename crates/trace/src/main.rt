@@ -7,8 +7,8 @@ ghost use Rattle.std.specs.Prelude.{◌≡◌, ◌+◌, length};
 ghost use Rattle.model.specs.Programs.{input_size};
 ghost use Rattle.programs.specs.Sizes.{trace_bytes};
 
-use model::Answer;
-use std::io::{self, Read, Write};
+use lines::shared::convert;
+use std::io;
 
 // Room for one byte more than the programs read, so that a longer input is told.
 const INPUT_ROOM: usize = programs::INPUT_SIZE + 1;
@@ -29,14 +29,11 @@ fn output_room() -> [u8; OUTPUT_ROOM]
 }
 
 fn main(rt: HostRuntime) -> io::Result<()> {
-    let mut input = input_room();
-    let n = io::copy(&mut rt.stdin().take(INPUT_ROOM as u64), &mut &mut input[..])?;
-    let mut output = output_room();
-    let answer = programs::print_trace(&input[..INPUT_ROOM.min(n as usize)], &mut output);
-    // The room is enough for every text (proofs/TextSizes of programs), so 17 is never answered.
-    let Answer::Count(size) = answer else {
-        return Ok(());
-    };
-    let end = size as usize;
-    rt.stdout().write_all(&output[..end])
+    convert(
+        rt.stdin(),
+        rt.stdout(),
+        &mut input_room(),
+        &mut output_room(),
+        programs::print_trace,
+    )
 }

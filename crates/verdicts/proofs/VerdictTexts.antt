@@ -8,8 +8,8 @@ use native.Mathlib.Omega.{arith}
 use borrow.Author.Tests.{lt-ltb, le-ltb}
 use lib.Dec.{ltb, eqb}
 use lib.ListN.{length, get_or, take}
-use Rattle.model.specs.declared.Answer.{Answer}
-use Rattle.model.specs.declared.Answer.TheVariants.{Count}
+use Rattle.std.specs.Prelude.{Result, Ok, Err}
+use Rattle.model.specs.declared.Refusal.{Refusal}
 use Rattle.model.specs.declared.Line.{Line}
 use Rattle.model.specs.Layouts.{neighbours}
 use Rattle.model.proofs.Finite.{near}
@@ -22,34 +22,34 @@ use Rattle.model.specs.Expansion.{expand}
 use Rattle.model.specs.Programs.{or_refusal}
 use Rattle.model.proofs.RoundTrip.{reads_lines}
 use Rattle.model.proofs.ExpansionLaws.{expansion_most, expansion_correct}
-use Rattle.model.proofs.CheckAnswers.{NoCount, Refusal}
-use Rattle.sets.specs.declared.Verdict.TheVariants.{Balanced, Spent, Leak, Refused}
+use Rattle.model.proofs.CheckAnswers.{refusal}
+use Rattle.sets.specs.declared.Verdict.TheVariants.{Balanced, Spent, Leak}
 use Rattle.sets.specs.Walk.{told, verdict_report}
 use Rattle.sets.specs.Claims.{Clear}
 use Rattle.sets.proofs.Expansions.{no_false_alarm}
 use Rattle.lines.specs.Printing.{rows_from, rows_text, lines_text}
 use Rattle.lines.specs.Reading.{read_input}
 use Rattle.verdicts.specs.Verdicts.{verdict_size, verdict_budget, image_sets, balanced_text, spent_text, leak_text, verdict_text, verdict_prints, NoAlarm, balanced, spent}
-use Rattle.lines.proofs.InputLaws.{read_input_lem, answer_is, refusal_read, count_is, stored_fits, stored-part}
+use Rattle.lines.proofs.InputLaws.{read_input_lem, refusal_read, count_is, stored_fits, stored-part}
 use Rattle.verdicts.proofs.VerdictSets.{image_sets_lem}
 
 -- ---- the line of each verdict
 
-pub balanced_line : (counter steps : ℕ) → lines_text [] (98 ∷ 97 ∷ 108 ∷ 97 ∷ 110 ∷ 99 ∷ 101 ∷ 100 ∷ 44 ∷ []) (steps ∷ []) ≡ verdict_text (told (Balanced counter steps))
+pub balanced_line : (counter steps : ℕ) → lines_text [] (98 ∷ 97 ∷ 108 ∷ 97 ∷ 110 ∷ 99 ∷ 101 ∷ 100 ∷ 44 ∷ []) (steps ∷ []) ≡ verdict_text (told (Ok (Balanced counter steps)))
 unfolding lines_text rows_text rows_from flat_map verdict_text balanced_text
 balanced_line counter steps = refl
 
-pub spent_line : (counter steps : ℕ) → lines_text [] (115 ∷ 112 ∷ 101 ∷ 110 ∷ 116 ∷ 44 ∷ []) (steps ∷ []) ≡ verdict_text (told (Spent counter steps))
+pub spent_line : (counter steps : ℕ) → lines_text [] (115 ∷ 112 ∷ 101 ∷ 110 ∷ 116 ∷ 44 ∷ []) (steps ∷ []) ≡ verdict_text (told (Ok (Spent counter steps)))
 unfolding lines_text rows_text rows_from flat_map verdict_text spent_text
 spent_line counter steps = refl
 
-pub leak_line : (line steps : ℕ) → lines_text [] (108 ∷ 101 ∷ 97 ∷ 107 ∷ 44 ∷ []) (line ∷ []) ≡ verdict_text (told (Leak line steps))
+pub leak_line : (line steps : ℕ) → lines_text [] (108 ∷ 101 ∷ 97 ∷ 107 ∷ 44 ∷ []) (line ∷ []) ≡ verdict_text (told (Ok (Leak line steps)))
 unfolding lines_text rows_text rows_from flat_map verdict_text leak_text
 leak_line line steps = refl
 
-pub refused_line : (number line : ℕ) → or_refusal (refused number line) [] ≡ verdict_text (told (Refused number line))
+pub refused_line : (f : Refusal ℕ) → or_refusal (refusal f) [] ≡ verdict_text (told (Err f))
 unfolding verdict_text
-refused_line number line = refl
+refused_line f = refl
 
 -- ---- from the input to the line
 
@@ -65,18 +65,17 @@ short_prints : (input : List ℕ) → length input ≤ verdict_size
     → verdict_prints input ≡ or_refusal (read_input input).answer (verdict_text (verdict_report (read_input input).stored image_sets verdict_budget))
 short_prints input h = verdict_prints_lem input ∙ rw (le-ltb verdict_size (length input) h)
 
-module _ (input store new : List ℕ) (a : Answer) (small : length input ≤ verdict_size) (room : length store ≡ line_width * max_lines) (e : outcome (report a) (new ∷ []) ≡ read_outcome input store) where
+module _ (input store new : List ℕ) (a : Result ℕ (Refusal ℕ)) (small : length input ≤ verdict_size) (room : length store ≡ line_width * max_lines) (e : outcome (report a) (new ∷ []) ≡ read_outcome input store) where
   reading_is : reading max_lines 0 (length store / line_width) input ≡ read_input input
   reading_is = let z : length store / line_width ≡ max_lines = omega arith in ap (λ (k : ℕ). reading max_lines 0 k input) z ∙ sym (read_input_lem input)
 
-  pub unread_prints : NoCount a → or_refusal (report a) [] ≡ verdict_prints input
-  unread_prints h =
-      let f : Refusal (read_input input).answer = refusal_read input store new a reading_is e h in
+  pub unread_prints : (f : Refusal ℕ) → a ≡ Err f → or_refusal (report a) [] ≡ verdict_prints input
+  unread_prints f q =
       let t : List ℕ = verdict_text (verdict_report (read_input input).stored image_sets verdict_budget) in
-      ap (λ (r : Report). or_refusal r []) (answer_is input store new a reading_is e ∙ f.is)
-      ∙ ap (λ (r : Report). or_refusal r t) (sym f.is) ∙ sym (short_prints input small)
+      ap (λ (r : Report). or_refusal r []) (ap report q)
+      ∙ ap (λ (r : Report). or_refusal r t) (sym (refusal_read input store new a reading_is e f q)) ∙ sym (short_prints input small)
 
-  module _ (n : ℕ) (counted-n : a ≡ Count n) where
+  module _ (n : ℕ) (counted-n : a ≡ Ok n) where
     pub lines_fit : line_width * n ≤ length new
     lines_fit = stored_fits input store new a reading_is e n counted-n
 

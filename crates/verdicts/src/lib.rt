@@ -4,6 +4,7 @@
 #![tactic(auto)]
 
 ghost use Rattle.std.specs.Prelude.{◌≡◌, [], ◌∷◌, suc, ◌+◌, ◌*◌, ◌<◌, length, set};
+ghost use Rattle.std.specs.Prelude.{Ok};
 ghost use Rattle.model.specs.Answers.{report, outcome};
 ghost use Rattle.model.specs.Images.{image_at};
 ghost use Rattle.model.specs.Layouts.{neighbours};
@@ -13,8 +14,9 @@ ghost use Rattle.sets.specs.Walk.{told, verdict_report};
 ghost use Rattle.verdicts.specs.Verdicts.{verdict_budget, image_sets, sets_before, verdict_text, verdict_prints};
 
 use lines::reader::read_lines;
+use lines::shared::room;
 use lines::{write_lines, write_refusal};
-use model::{Answer, LINE_WIDTH, MAX_LINES, STATE_SIZE};
+use model::{Condition, LINE_WIDTH, MAX_LINES, Refusal, STATE_SIZE};
 use sets::{SETS_SIZE, Verdict};
 
 // The most bytes of an input.
@@ -31,12 +33,6 @@ const SET_WIDTH: usize = SETS_SIZE / STATE_SIZE;
 
 // Room for every line.
 const LINES_ROOM: usize = LINE_WIDTH * MAX_LINES;
-
-fn lines_room() -> [u16; LINES_ROOM]
-    ensures { length result ≡ line_width * max_lines }
-{
-    [0u16; LINES_ROOM]
-}
 
 // The first three bytes of a set.
 fn put_bytes(sets: &mut [u8], at: usize, count: u8, first: u8, second: u8)
@@ -69,56 +65,50 @@ fn write_sets(sets: &mut [u8])
 {
     let bits = [0u8; STATE_SIZE];
     let mut image = [0u8; STATE_SIZE];
-    images::to_image(0, 0, &bits, &mut image);
-    let mut i = 0;
-    while i < STATE_SIZE {
+    // The all-zero state has an image: nothing is refused.
+    let _ = images::to_image(0, 0, &bits, &mut image);
+    for i in 0..STATE_SIZE {
         put_values(sets, i, image[i]);
-        i += 1;
     }
 }
 
 // Writes the line of a verdict.
-fn write_verdict(verdict: Verdict, out: &mut [u8]) -> Answer
-    ensures { outcome (report result) (out.new ∷ []) ≡ fitted (verdict_text (told verdict)) out.old }
+fn write_verdict(verdict: Verdict, out: &mut [u8]) -> Result<u32, Refusal>
+    ensures { outcome (report result) (out.new ∷ []) ≡ fitted (verdict_text (told (Ok verdict))) out.old }
 {
-    let rows = [0u16; 1];
     match verdict {
-        Verdict::Balanced { counter: _, steps } => {
-            let last = [steps];
-            write_lines(&rows[..0], b"balanced,", &last, out)
-        }
-        Verdict::Spent { counter: _, steps } => {
-            let last = [steps];
-            write_lines(&rows[..0], b"spent,", &last, out)
-        }
-        Verdict::Leak { line, steps: _ } => {
-            let last = [line];
-            write_lines(&rows[..0], b"leak,", &last, out)
-        }
-        Verdict::Refused { number, line } => write_refusal(Answer::Refused { number, line }, out),
+        Verdict::Balanced { steps, .. } => write_lines(&[], b"balanced,", &[steps], out),
+        Verdict::Spent { steps, .. } => write_lines(&[], b"spent,", &[steps], out),
+        Verdict::Leak { line, .. } => write_lines(&[], b"leak,", &[line], out),
     }
 }
 
 // Walks a program, and writes the verdict.
-fn write_judged(program: &[u16], out: &mut [u8]) -> Answer
+fn write_judged(program: &[u16], out: &mut [u8]) -> Result<u32, Refusal>
     ensures { outcome (report result) (out.new ∷ []) ≡ fitted (verdict_text (verdict_report program.now image_sets verdict_budget)) out.old }
 {
     let mut sets = [0u8; SETS_SIZE];
     write_sets(&mut sets);
-    let verdict = walk::judge(program, &sets, BUDGET);
-    write_verdict(verdict, out)
+    match walk::judge(program, &sets, BUDGET) {
+        Ok(verdict) => write_verdict(verdict, out),
+        Err(refusal) => write_refusal(Err(refusal), out),
+    }
 }
 
 // The text of the verdict, or of a refusal.
-pub fn print_verdict(input: &[u8], out: &mut [u8]) -> Answer
+pub fn print_verdict(input: &[u8], out: &mut [u8]) -> Result<u32, Refusal>
     ensures { outcome (report result) (out.new ∷ []) ≡ fitted (verdict_prints input.now) out.old }
 {
     if INPUT_SIZE < input.len() {
-        return write_refusal(Answer::Refused { number: 8, line: 0 }, out);
+        let refusal = Refusal {
+            condition: Condition::StoreFull,
+            line: 0,
+        };
+        return write_refusal(Err(refusal), out);
     }
-    let mut store = lines_room();
+    let mut store = room::<LINES_ROOM>();
     let got = read_lines(input, &mut store);
-    let Answer::Count(n) = got else {
+    let Ok(n) = got else {
         return write_refusal(got, out);
     };
     let end = LINE_WIDTH * (n as usize);

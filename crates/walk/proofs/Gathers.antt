@@ -11,9 +11,8 @@ use Rattle.sets.specs.Walk.{set_width, listed, lists_of, sets_of, values, insert
 abbrev pub meant : (ℕ → ℕ) → List ℕ → ℕ → List ℕ
 meant f b i = map f (values (lists_of b) i)
 
--- of n values the first j were noted in the bytes f
-pub record Noted (vs : List ℕ) (n : ℕ) (f : List ℕ) (j : ℕ) : Type 0 where
-  pub most : j ≤ n
+-- of these values the first j were noted in the bytes f
+pub record Noted (vs f : List ℕ) (j : ℕ) : Type 0 where
   pub long : length f ≡ suc set_width
   pub count : get_or f 0 0 ≤ set_width
   pub few_noted : length (listed f) ≤ j
@@ -21,7 +20,6 @@ pub record Noted (vs : List ℕ) (n : ℕ) (f : List ℕ) (j : ℕ) : Type 0 whe
 
 -- the first i places have their sets and first values
 pub record Took (b own : List ℕ) (s : State) (i : ℕ) : Type 0 where
-  pub most : i ≤ state_size
   pub long : length own ≡ set_width * state_size
   pub long_state : length s ≡ state_size
   pub lists : (m : ℕ) → m < i → values (lists_of own) m ≡ values (sets_of b) m

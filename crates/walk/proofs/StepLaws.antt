@@ -11,6 +11,8 @@ use Rattle.model.specs.declared.Line.{Line}
 use Rattle.model.specs.Places.{State, place}
 use Rattle.model.specs.Step.{Row, result, next}
 use Rattle.model.specs.Stored.{operand_of}
+use Rattle.model.specs.declared.Condition.{Condition}
+use Rattle.model.specs.declared.Condition.TheVariants.{SeveralValues, TooManyValues}
 use Rattle.walk.specs.declared.Move.TheVariants.{To, Leaks, Refuses}
 use Rattle.sets.specs.Walk.{Sets, max_values, set_width, listed, heads, involved, draw, choices, unsettled, written, buses, steady, onto}
 use Rattle.sets.specs.Claims.{Full}
@@ -39,7 +41,7 @@ told_all S l k g r F e = rw e (tells S l k r (full_some S F))
 
 -- ---- what it answers
 
-pub no_to : (k n : ℕ) → Refuses k ≡ To n → ⊥
+pub no_to : (k : Condition) (n : ℕ) → Refuses k ≡ To n → ⊥
 no_to k n e = let z : ◌≡◌ {A = ℕ} 0 1 = cc in omega arith
 
 pub leaks_to : (n : ℕ) → Leaks ≡ To n → ⊥
@@ -54,12 +56,12 @@ is_so a true e q = refl
 is_so a false e q = sym q ∙ e
 
 module _ (S : Sets) (bus : List ℕ) (l : Line) (k : ℕ) where
-  pub moves_21 : unsettled S l ≡ true → Refuses 21 ≡ moves S bus l k
+  pub moves_21 : unsettled S l ≡ true → Refuses SeveralValues ≡ moves S bus l k
   unfolding moves
   moves_21 e = rw e
 
   module _ (u : unsettled S l ≡ false) (g : Gathered) (h : Tells g (written S l) (not (steady S (0 ∷ []) l k))) where
-    pub moves_22 : max_values < length g.results → Refuses 22 ≡ moves S bus l k
+    pub moves_22 : max_values < length g.results → Refuses TooManyValues ≡ moves S bus l k
     unfolding moves
     moves_22 m =
         let t : max_values < length (written S l) = rw (lt-ltb max_values (length g.results) m) at h in

@@ -8,21 +8,21 @@ use native.Mathlib.Omega.{arith}
 use borrow.Author.Tests.{lt-ltb, le-ltb, eq-eqb, ne_eqb}
 use lib.Dec.{ltb, eqb}
 use lib.ListN.{length}
-use Rattle.model.specs.declared.Answer.{Answer}
-use Rattle.model.specs.declared.Answer.TheVariants.{Count, Halted as Halted', Spent as Spent', Refused as Refused'}
+use Rattle.std.specs.Prelude.{Result, Ok, Err}
+use Rattle.model.specs.declared.Refusal.{Refusal}
+use Rattle.model.specs.declared.Condition.TheVariants.{SeveralValues, TooManyValues, WrongLength}
 use Rattle.model.specs.declared.Line.{Line}
 use Rattle.model.specs.Limits.{state_size}
 use Rattle.model.specs.Answers.{Report, report, refused, counted, and_then}
 use Rattle.model.specs.Step.{next}
 use Rattle.model.specs.Stored.{line_at, line_count, lines, program_check}
 use Rattle.model.proofs.StoredLaws.{length-lines, get_line, no_line}
-use Rattle.model.proofs.CheckAnswers.{program_answers, NoCount, Refusal, no_count_refuses, refusal_stands}
-use Rattle.sets.specs.declared.Verdict.{Verdict}
-use Rattle.sets.specs.declared.Verdict.TheVariants.{Balanced, Spent, Leak, Refused}
+use Rattle.model.proofs.CheckAnswers.{refusal, refusal-told, refusal_stands}
+use Rattle.sets.specs.declared.Verdict.TheVariants.{Balanced, Spent, Leak}
 use Rattle.walk.specs.declared.Move.{Move}
 use Rattle.walk.specs.declared.Move.TheVariants.{To, Leaks, Refuses}
-use Rattle.sets.specs.Walk.{Sets, max_values, set_width, sets_of, sized, heads, unsettled, written, steady, onto, buses, ended, walk, told, judged, verdict_report}
-use Rattle.walk.specs.Moves.{moves, verdict_of, refusal_of}
+use Rattle.sets.specs.Walk.{Sets, Judged, refused_by, max_values, set_width, sets_of, sized, heads, unsettled, written, steady, onto, buses, ended, walk, told, judged, verdict_report}
+use Rattle.walk.specs.Moves.{moves, verdict_of}
 use Rattle.sets.specs.Claims.{Full}
 use Rattle.sets.specs.Addresses.{leads}
 use Rattle.sets.proofs.Sound.{onto-full, walk_some, walk_none, walk-zero}
@@ -31,14 +31,14 @@ use Rattle.walk.proofs.StepLaws.{leads_some}
 
 -- ---- one step
 
-by_move : (a b c : Bool) (n k t : ℕ) (v : Verdict)
-    → cond a (Refused 21 k) (cond b (Refused 22 k) (cond c v (Leak k t))) ≡ verdict_of (cond a (Refuses 21) (cond b (Refuses 22) (cond c (To n) Leaks))) k t v
+by_move : (a b c : Bool) (n k t : ℕ) (v : Judged)
+    → cond a (refused_by SeveralValues k) (cond b (refused_by TooManyValues k) (cond c v (Ok (Leak k t)))) ≡ verdict_of (cond a (Refuses SeveralValues) (cond b (Refuses TooManyValues) (cond c (To n) Leaks))) k t v
 by_move true b c n k t v = refl
 by_move false true c n k t v = refl
 by_move false false true n k t v = refl
 by_move false false false n k t v = refl
 
-to_next : (a b c : Bool) (n j : ℕ) → To n ≡ cond a (Refuses 21) (cond b (Refuses 22) (cond c (To j) Leaks)) → n ≡ j
+to_next : (a b c : Bool) (n j : ℕ) → To n ≡ cond a (Refuses SeveralValues) (cond b (Refuses TooManyValues) (cond c (To j) Leaks)) → n ≡ j
 to_next true b c n j e = let z : ◌≡◌ {A = ℕ} 0 1 = cc in absurd (omega arith)
 to_next false true c n j e = let z : ◌≡◌ {A = ℕ} 0 1 = cc in absurd (omega arith)
 to_next false false true n j e = cc
@@ -48,13 +48,13 @@ pub begins : (p : List Line) (b : ℕ) (S : Sets) (bus : List ℕ) → walk p (b
 begins p b S bus = let z : b - 0 ≡ b = omega arith in rw z
 
 module _ (p : List ℕ) (k t b : ℕ) (S : Sets) (bus : List ℕ) where
-  pub spends : k < line_count p → b ≤ t → Spent k t ≡ walk (lines p) (b - t) k t S bus
+  pub spends : k < line_count p → b ≤ t → Ok (Spent k t) ≡ walk (lines p) (b - t) k t S bus
   unfolding ended
   spends h g =
       let z : b - t ≡ 0 = omega arith in
       rw (z, walk-zero (lines p) k t S bus, length-lines p, lt-ltb k (line_count p) h)
 
-  pub balances : line_count p ≤ k → Balanced k t ≡ walk (lines p) (b - t) k t S bus
+  pub balances : line_count p ≤ k → Ok (Balanced k t) ≡ walk (lines p) (b - t) k t S bus
   unfolding ended
   balances h = rw (walk_none (lines p) (b - t) k t S bus (no_line p k h), length-lines p, le-ltb k (line_count p) h)
 
@@ -63,7 +63,7 @@ module _ (p : List ℕ) (k t b : ℕ) (S : Sets) (bus : List ℕ) where
     l = line_at p k
 
     -- what is left after the step
-    abbrev later : Verdict
+    abbrev later : Judged
     later = walk (lines p) (b - (t + 1)) (next l k (heads S)) (t + 1) (onto S l) (buses S bus l)
 
     one_step : walk (lines p) (b - t) k t S bus ≡ verdict_of (moves S bus l k) k t later
@@ -75,7 +75,7 @@ module _ (p : List ℕ) (k t b : ℕ) (S : Sets) (bus : List ℕ) where
         ∙ by_move (unsettled S l) (ltb max_values (length (written S l))) (steady S bus l k) (next l k (heads S)) k t (walk (lines p) (b - (t + 1)) (next l k (heads S)) (suc t) (onto S l) (buses S bus l))
         ∙ ap (λ (n : ℕ). verdict_of (moves S bus l k) k t (walk (lines p) (b - (t + 1)) (next l k (heads S)) n (onto S l) (buses S bus l))) w
 
-    pub ends : (m : Move) (v : Verdict) → m ≡ moves S bus l k → verdict_of m k t later ≡ v → v ≡ walk (lines p) (b - t) k t S bus
+    pub ends : (m : Move) (v : Judged) → m ≡ moves S bus l k → verdict_of m k t later ≡ v → v ≡ walk (lines p) (b - t) k t S bus
     ends m v e q = sym (one_step ∙ ap (λ (x : Move). verdict_of x k t later) (sym e) ∙ q)
 
     goes : (m : Move) (n : ℕ) → m ≡ moves S bus l k → m ≡ To n → n ≡ next l k (heads S)
@@ -83,7 +83,7 @@ module _ (p : List ℕ) (k t b : ℕ) (S : Sets) (bus : List ℕ) where
     goes m n e q = to_next (unsettled S l) (ltb max_values (length (written S l))) (steady S bus l k) n (next l k (heads S)) (sym q ∙ e)
 
     -- the bus is listed by the last address
-    pub goes_on : (m : Move) (n : ℕ) (S' : Sets) (bus' : List ℕ) (o : Verdict) → m ≡ moves S bus l k → m ≡ To n → S' ≡ onto S l → bus' ≡ leads S bus l → Full S → 0 < length bus
+    pub goes_on : (m : Move) (n : ℕ) (S' : Sets) (bus' : List ℕ) (o : Judged) → m ≡ moves S bus l k → m ≡ To n → S' ≡ onto S l → bus' ≡ leads S bus l → Full S → 0 < length bus
         → walk (lines p) (b - t) k t S bus ≡ o → walk (lines p) (b - (t + 1)) n (t + 1) S' bus' ≡ o
     goes_on m n S' bus' o e q s r F some-bus w =
         rw (goes m n e q, s, r)
@@ -93,22 +93,14 @@ module _ (p : List ℕ) (k t b : ℕ) (S : Sets) (bus : List ℕ) where
 
 -- ---- the entry point
 
-told_refusal : {r : Report} (a : Answer) → report a ≡ r → Refusal r → told (refusal_of a) ≡ report a
-told_refusal (Count n) e f = let z : counted n ≡ refused f.number f.line = e ∙ f.is in let w : ◌≡◌ {A = ℕ} 0 1 = cc in absurd (omega arith)
-told_refusal (Halted' k t) e f = let z : report (Halted' k t) ≡ refused f.number f.line = e ∙ f.is in let w : ◌≡◌ {A = ℕ} 0 1 = cc in absurd (omega arith)
-told_refusal (Spent' k t) e f = let z : report (Spent' k t) ≡ refused f.number f.line = e ∙ f.is in let w : ◌≡◌ {A = ℕ} 0 1 = cc in absurd (omega arith)
-told_refusal (Refused' n k) e f = refl
-
 module _ (p sets : List ℕ) (b : ℕ) where
-  pub no_program : (a : Answer) (v : Verdict) → NoCount a → report a ≡ program_check p → v ≡ refusal_of a → told v ≡ verdict_report p sets b
+  pub no_program : (a : Result ℕ (Refusal ℕ)) (f : Refusal ℕ) → a ≡ Err f → report a ≡ program_check p → refusal f ≡ verdict_report p sets b
   unfolding verdict_report
-  no_program a v h e q =
-      let f = no_count_refuses a h (program_answers p) e in
-      ap told q ∙ told_refusal a e f ∙ e ∙ refusal_stands f (told (judged (lines p) sets b))
+  no_program a f q e = refusal_stands f (refusal-told q e) (told (judged (lines p) sets b))
 
   -- the verdict by the two tests
   by_tests : Bool → Bool → Report
-  by_tests x y = told (cond x (cond y (walk (lines p) b 0 0 (sets_of sets) (0 ∷ [])) (Refused 22 0)) (Refused 18 0))
+  by_tests x y = told (cond x (cond y (walk (lines p) b 0 0 (sets_of sets) (0 ∷ [])) (refused_by TooManyValues 0)) (refused_by WrongLength 0))
 
   module _ (n : ℕ) (e : program_check p ≡ counted n) where
     tested : by_tests (eqb (length sets) (set_width * state_size)) (sized state_size sets) ≡ verdict_report p sets b
@@ -126,7 +118,7 @@ module _ (p sets : List ℕ) (b : ℕ) where
     unfolding by_tests
     no_sizes h g = by true false (eq-eqb (length sets) (set_width * state_size) h) g
 
-    pub walks : (v : Verdict) (S : Sets) → length sets ≡ set_width * state_size → sized state_size sets ≡ true → S ≡ sets_of sets → v ≡ walk (lines p) b 0 0 S (0 ∷ []) → told v ≡ verdict_report p sets b
+    pub walks : (v : Judged) (S : Sets) → length sets ≡ set_width * state_size → sized state_size sets ≡ true → S ≡ sets_of sets → v ≡ walk (lines p) b 0 0 S (0 ∷ []) → told v ≡ verdict_report p sets b
     unfolding by_tests
     walks v S h g e q =
         ap told q ∙ ap (λ (R : Sets). told (walk (lines p) b 0 0 R (0 ∷ []))) e ∙ by true true (eq-eqb (length sets) (set_width * state_size) h) g

@@ -13,14 +13,14 @@ ghost use Rattle.sets.specs.Walk.{set_width, max_values, listed, lists_of, sets_
 ghost use Rattle.sets.specs.Claims.{Full};
 ghost use Rattle.sets.specs.Addresses.{leads};
 ghost use Rattle.choices.specs.Gathering.{line_by};
-ghost use Rattle.walk.specs.Moves.{moves, refusal_of};
+ghost use Rattle.walk.specs.Moves.{moves};
 ghost use Rattle.walk.specs.declared.Move.TheVariants.{To};
 
 use choices::bus::{is_met, lead};
 use choices::bytes::{ROOM, is_overfull, is_several, note, put_set, size_of, value_of};
 use choices::{base_of, explore};
 use machine::PLACES;
-use model::{Answer, LINE_WIDTH, Mark, Opcode, ROW_WIDTH, STATE_SIZE};
+use model::{Condition, LINE_WIDTH, Mark, Opcode, ROW_WIDTH, Refusal, STATE_SIZE};
 use sets::{MAX_VALUES, SET_WIDTH, SETS_SIZE, Verdict};
 
 // What one step on sets answers: the next counter, or how the walk ends.
@@ -28,28 +28,14 @@ use sets::{MAX_VALUES, SET_WIDTH, SETS_SIZE, Verdict};
 enum Move {
     To(u16),
     Leaks,
-    Refuses(u8),
+    Refuses(Condition),
 }
 
 // beq, bne.
 fn is_branch(opcode: Opcode) -> bool
     ensures { result ≡ branches opcode }
 {
-    match opcode {
-        Opcode::Nop => false,
-        Opcode::Jmp => false,
-        Opcode::Not => false,
-        Opcode::Mov => false,
-        Opcode::And => false,
-        Opcode::Orr => false,
-        Opcode::Xor => false,
-        Opcode::Lsl => false,
-        Opcode::Lsr => false,
-        Opcode::Add => false,
-        Opcode::Mul => false,
-        Opcode::Beq => true,
-        Opcode::Bne => true,
-    }
+    matches!(opcode, Opcode::Beq | Opcode::Bne)
 }
 
 // What the values of a place mean as an argument of a line of that mark, each once; in an unmarked line they are the values.
@@ -57,12 +43,9 @@ fn distinct_at(mark: Mark, sets: &[u8], i: usize) -> [u8; ROOM]
     requires { length sets.now ≡ set_width * state_size }
     ensures { (listed result ≡ distinct (map (meaning mark (kind i)) (values (lists_of sets.now) i))) × (get_or result 0 0 ≤ max_values) }
 {
-    let n = size_of(sets, i);
     let mut found = [0u8; ROOM];
-    let mut j = 0;
-    while j < n {
+    for j in 0..size_of(sets, i) {
         note(&mut found, machine::argument(mark, i, value_of(sets, i, j)));
-        j += 1;
     }
     found
 }
@@ -72,11 +55,8 @@ fn is_loose(mark: Mark, code: u16, sets: &[u8], state: &[u8]) -> bool
     requires { (length sets.now ≡ set_width * state_size) × (state.now ≡ heads (lists_of sets.now)) }
     ensures { result ≡ loose (lists_of sets.now) mark (operand_of code) }
 {
-    if is_several(sets, base_of(code)) {
-        return true;
-    }
-    let meant = distinct_at(mark, sets, machine::place_at(code, state));
-    1 < meant[0]
+    is_several(sets, base_of(code))
+        || 1 < distinct_at(mark, sets, machine::place_at(code, state))[0]
 }
 
 // 21: a branch argument, its base or a destination's base has several values.
@@ -84,17 +64,10 @@ fn is_unsettled(line: &[u16], sets: &[u8], state: &[u8]) -> bool
     requires { (length line.now ≡ line_width) × (length sets.now ≡ set_width * state_size) × (state.now ≡ heads (lists_of sets.now)) }
     ensures { result ≡ unsettled (lists_of sets.now) (line_by line.now) }
 {
-    if is_several(sets, base_of(line[2])) {
-        return true;
-    }
-    if is_branch(coding::opcode_of(line[1])) {
-        let mark = coding::mark_of(line[0]);
-        if is_loose(mark, line[3], sets, state) {
-            return true;
-        }
-        return is_loose(mark, line[4], sets, state);
-    }
-    false
+    let mark = coding::mark_of(line[0]);
+    is_several(sets, base_of(line[2]))
+        || is_branch(coding::opcode_of(line[1]))
+            && (is_loose(mark, line[3], sets, state) || is_loose(mark, line[4], sets, state))
 }
 
 // After a line whose results were found: the bus, the written set and its first value; and the next counter.
@@ -134,7 +107,7 @@ fn step(
     ensures bus_after { (n : ℕ) → result ≡ To n → (listed bus.new ≡ leads (lists_of sets.old) (listed bus.old) (line_by line.now)) × (0 < length (listed bus.new)) × (get_or bus.new 0 0 ≤ max_values) }
 {
     if is_unsettled(line, sets, state) {
-        return Move::Refuses(21);
+        return Move::Refuses(Condition::SeveralValues);
     }
     let mut row = [0u16; ROW_WIDTH];
     let mut found = [0u8; ROOM];
@@ -142,12 +115,9 @@ fn step(
         line, counter, &mut row, 0, sets, state, &mut found, false, weights,
     );
     if is_overfull(&found) {
-        return Move::Refuses(22);
+        return Move::Refuses(Condition::TooManyValues);
     }
-    if leak {
-        return Move::Leaks;
-    }
-    if !is_met(line, sets, bus) {
+    if leak || !is_met(line, sets, bus) {
         return Move::Leaks;
     }
     Move::To(go_on(line, counter, sets, state, bus, &found))
@@ -169,7 +139,7 @@ fn walk_lines(
     budget: u16,
     sets: &mut [u8; SETS_SIZE],
     state: &mut [u8; STATE_SIZE],
-) -> Verdict
+) -> Result<Verdict, Refusal>
     requires { (count ≡ line_count program.now) × (count ≤ max_lines) × (state.old ≡ heads (lists_of sets.old)) × Full (lists_of sets.old) }
     ensures { result ≡ walk (lines program.now) budget 0 0 (lists_of sets.old) (0 ∷ []) }
 {
@@ -179,30 +149,29 @@ fn walk_lines(
     let mut steps: u16 = 0;
     while counter < count {
         if budget <= steps {
-            return Verdict::Spent { counter, steps };
+            return Ok(Verdict::Spent { counter, steps });
         }
         let line = coding::numbers_at(program, counter as usize);
-        let moved = step(&line, counter, sets, state, &mut bus, &weights);
-        match moved {
+        match step(&line, counter, sets, state, &mut bus, &weights) {
             Move::To(next) => {
                 counter = next;
                 steps += 1;
             }
             Move::Leaks => {
-                return Verdict::Leak {
+                return Ok(Verdict::Leak {
                     line: counter,
                     steps,
-                };
+                });
             }
-            Move::Refuses(number) => {
-                return Verdict::Refused {
-                    number,
+            Move::Refuses(condition) => {
+                return Err(Refusal {
+                    condition,
                     line: counter,
-                };
+                });
             }
         }
     }
-    Verdict::Balanced { counter, steps }
+    Ok(Verdict::Balanced { counter, steps })
 }
 
 // Whether each set has 1 to 16 values.
@@ -210,16 +179,11 @@ fn is_sized(sets: &[u8]) -> bool
     requires { length sets.now ≡ set_width * state_size }
     ensures { result ≡ sized state_size sets.now }
 {
-    let mut i = 0;
-    while i < STATE_SIZE {
+    for i in 0..STATE_SIZE {
         let n = sets[SET_WIDTH * i] as usize;
-        if n == 0 {
+        if n == 0 || MAX_VALUES < n {
             return false;
         }
-        if MAX_VALUES < n {
-            return false;
-        }
-        i += 1;
     }
     true
 }
@@ -229,52 +193,29 @@ fn take_sets(sets: &[u8], own: &mut [u8], state: &mut [u8])
     requires { (length sets.now ≡ set_width * state_size) × T (sized state_size sets.now) × (length own.old ≡ set_width * state_size) × (length state.old ≡ state_size) }
     ensures { (lists_of own.new ≡ sets_of sets.now) × (state.new ≡ heads (lists_of own.new)) }
 {
-    let mut i = 0;
-    while i < STATE_SIZE {
+    for i in 0..STATE_SIZE {
         let found = distinct_at(Mark::Unmarked, sets, i);
         put_set(own, i, &found);
         state[i] = found[1];
-        i += 1;
-    }
-}
-
-// The refusal of a check, as a verdict. A check answers a count or a refusal, so where it gives no count 0 never occurs.
-pub fn refusal_of(checked: Answer) -> Verdict
-    ensures { result ≡ refusal_of checked }
-{
-    match checked {
-        Answer::Count(_) => Verdict::Refused { number: 0, line: 0 },
-        Answer::Halted {
-            counter: _,
-            steps: _,
-        } => Verdict::Refused { number: 0, line: 0 },
-        Answer::Spent {
-            counter: _,
-            steps: _,
-        } => Verdict::Refused { number: 0, line: 0 },
-        Answer::Refused { number, line } => Verdict::Refused { number, line },
     }
 }
 
 // The verdict on a stored program, from sets that are left alone, with a budget of steps.
-pub fn judge(program: &[u16], sets: &[u8], budget: u16) -> Verdict
+pub fn judge(program: &[u16], sets: &[u8], budget: u16) -> Result<Verdict, Refusal>
     ensures { told result ≡ verdict_report program.now sets.now budget }
 {
-    let checked = coding::check_program(program);
-    let Answer::Count(count) = checked else {
-        return refusal_of(checked);
-    };
+    let count = coding::check_program(program)?;
     if sets.len() != SETS_SIZE {
-        return Verdict::Refused {
-            number: 18,
+        return Err(Refusal {
+            condition: Condition::WrongLength,
             line: 0,
-        };
+        });
     }
     if !is_sized(sets) {
-        return Verdict::Refused {
-            number: 22,
+        return Err(Refusal {
+            condition: Condition::TooManyValues,
             line: 0,
-        };
+        });
     }
     let mut own = [0u8; SETS_SIZE];
     let mut state = [0u8; STATE_SIZE];

@@ -1,4 +1,3 @@
-pub mod CoveredLaws
 pub mod Writes
 pub mod WatchLaws
 pub mod WatchClaims

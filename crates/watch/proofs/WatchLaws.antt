@@ -1,11 +1,11 @@
--- The loop of a watched run leaves what `watch_outcome` says. First a watched run's outcome, by what is asked before it; then the laws of a
--- moment: at the first one, from turn to turn, at the end. `Stands` is the loop's invariant, and `fuel` what falls.
+-- The loop of a watched run leaves what `watch_outcome` says. First a watched run's outcome, by what is asked before it; then the laws of
+-- `Going`, the loop's invariant: before the first step, from step to step, at the end.
 -- Assumes nothing.
-use Rattle.std.proofs.Common.{◌≡◌, ℕ, suc, ◌+◌, ◌-◌, ◌*◌, ◌^◌, ◌<◌, ◌≤◌, Bool, true, false, cond, ◌||◌, ltb, leb, List, [], ◌∷◌, ◌++◌, map, length, sym, refl, ap, ◌∙◌, subst, append_assoc, append-nil, arith, length-append, le-ltb, lt-ltb, leb-false, leb-true}
+use Rattle.std.proofs.Common.{◌≡◌, ℕ, suc, ◌+◌, ◌-◌, ◌*◌, ◌^◌, ◌<◌, ◌≤◌, Bool, true, false, cond, ltb, List, [], ◌∷◌, ◌++◌, map, length, sym, refl, ap, ◌∙◌, subst, append_assoc, append-nil, arith, length-append}
 use Rattle.model.specs.declared.Line.{Line}
-use Rattle.model.specs.declared.Answer.{Answer}
-use Rattle.model.specs.declared.Answer.TheVariants.{Count, Halted, Spent, Refused}
-use Rattle.model.specs.Limits.{state_size, row_width, max_lines}
+use Rattle.std.specs.Prelude.{Result, Err}
+use Rattle.model.specs.declared.Refusal.{Refusal}
+use Rattle.model.specs.Limits.{row_width, max_lines}
 use Rattle.model.specs.Answers.{Report, report, done, counted, refused, halted, spent, Outcome, outcome, unless_refused}
 use Rattle.model.specs.Places.{State, place}
 use Rattle.model.specs.Stored.{lines, line_at, line_count}
@@ -13,20 +13,33 @@ use Rattle.model.specs.Step.{after}
 use Rattle.model.specs.Run.{Ran, run_on, run, answer, run_leaves, run_outcome}
 use Rattle.model.proofs.StoredLaws.{program_checked, get_line, no_line}
 use Rattle.model.proofs.OutcomeLaws.{never_done}
-use Rattle.model.proofs.CheckAnswers.{CountOrRefusal, counts, refuses, either, then_answers, no_ending}
+use Rattle.model.proofs.CheckAnswers.{CountOrRefusal, counts, refuses, either, then_answers, refusal, refusal-told, refusal_stands}
 use Rattle.model.proofs.Runs.{step_run, stopped, run-zero}
-use Rattle.machine.specs.Loop.{machine, step_by, step_of, run_from, admission as run_admission}
+use Rattle.machine.specs.declared.steps.Run.{Run}
+use Rattle.machine.specs.declared.steps.Stepped.{Stepped}
+use Rattle.machine.specs.Loop.{Machine, machine, step_by, step_of, halted_at, spent_at, run_from, admission as run_admission}
 use Rattle.machine.proofs.Loops.{begins, halts, spends, goes_on}
 use Rattle.machine.proofs.Outcomes.{admission_answers, admitted, by_admission, runs}
 use Rattle.watch.specs.declared.Watch.{Watch}
-use Rattle.watch.specs.declared.Turn.{Turn}
 use Rattle.watch.specs.Watches.{places_written, watched, unwatchable, both, watch_outcome}
-use Rattle.watch.specs.Turns.{noted, admission, begun, run_of, Moment, moment, ended, stepped, turned, ending, told}
+use Rattle.watch.specs.Noting.{fresh, noted, admission}
 use Rattle.watch.proofs.Writes.{all_noted, none_noted, none_written, one_written}
 
 -- ---- what is asked before a watched run
 
 module _ (p : List ℕ) (budget size room : ℕ) (wrong : Bool) where
+  pub no_run : (a : Result ℕ (Refusal ℕ)) (f : Refusal ℕ) → a ≡ Err f → report a ≡ run_admission p budget size room → refusal f ≡ admission p budget size room wrong
+  unfolding admission
+  no_run a f q e = refusal_stands f (refusal-told q e) _
+
+  pub no_watches : (n : ℕ) → run_admission p budget size room ≡ counted n → wrong ≡ true → refused 26 0 ≡ admission p budget size room wrong
+  unfolding admission
+  no_watches n e f = rw (e, f)
+
+  pub passes : (n : ℕ) → run_admission p budget size room ≡ counted n → wrong ≡ false → counted n ≡ admission p budget size room wrong
+  unfolding admission
+  passes n e f = rw (e, f)
+
   answers : CountOrRefusal (admission p budget size room wrong)
   unfolding admission
   answers = then_answers (run_admission p budget size room) _ (either wrong _ _ (refuses 26 0 refl) (admission_answers p budget size room))
@@ -81,9 +94,9 @@ module _ (p : List ℕ) (start budget : ℕ) (s t : List ℕ) (ws : List Watch) 
   watch-ran vs e f = rw (e, f)
 
   -- a refusal
-  turned_down : (k l : ℕ) → refused k l ≡ admission p budget (length s) (length t) (unwatchable ws) → both (outcome (refused k l) (s ∷ t ∷ [])) ws ≡ watch_outcome p start budget s t ws
+  turned_down_by : (k l : ℕ) → refused k l ≡ admission p budget (length s) (length t) (unwatchable ws) → both (outcome (refused k l) (s ∷ t ∷ [])) ws ≡ watch_outcome p start budget s t ws
   unfolding admission
-  turned_down k l e = go (admission_answers p budget (length s) (length t))
+  turned_down_by k l e = go (admission_answers p budget (length s) (length t))
     where
       same : (k' l' : ℕ) → refused k l ≡ refused k' l' → both (outcome (refused k' l') (s ∷ t ∷ [])) ws ≡ watch_outcome p start budget s t ws → both (outcome (refused k l) (s ∷ t ∷ [])) ws ≡ watch_outcome p start budget s t ws
       same k' l' d g = ap (λ (r : Report). both (outcome r (s ∷ t ∷ [])) ws) d ∙ g
@@ -96,136 +109,109 @@ module _ (p : List ℕ) (start budget : ℕ) (s t : List ℕ) (ws : List Watch) 
       go (counts m q) = by_watches m q (unwatchable ws) refl (rw q at e)
       go (refuses k' l' q) = same k' l' (rw q at e) (watch_refused k' l' (run_refused k' l' q))
 
--- ---- the moments of a watched run
+  pub turned_down : (a : Result ℕ (Refusal ℕ)) (f : Refusal ℕ) → a ≡ Err f → report a ≡ admission p budget (length s) (length t) (unwatchable ws) → both (outcome (refusal f) (s ∷ t ∷ [])) ws ≡ watch_outcome p start budget s t ws
+  turned_down a f q e = turned_down_by _ _ (sym (refusal-told q e))
 
--- what falls from turn to turn
-abbrev pub fuel : ℕ → Turn → ℕ
-fuel budget t = cond t.going (suc (budget - t.steps)) 0
+  -- the count that is admitted is that of the lines
+  pub of_lines : (n : ℕ) → admission p budget (length s) (length t) (unwatchable ws) ≡ counted n → admission p budget (length s) (length t) (unwatchable ws) ≡ counted (line_count p)
+  of_lines n e =
+      let a = passed p budget (length s) (length t) (unwatchable ws) n (sym e) in
+      let d = admitted p budget (length s) (length t) n a.asked in
+      e ∙ ap (λ (m : ℕ). counted m) (program_checked p n d.program).count
 
-module _ (p : List ℕ) (start budget : ℕ) (s₀ t₀ : List ℕ) (ws₀ : List Watch) (checked : Answer) where
-  -- the run goes on: what is left of it gives the whole one's outcome, places and state, and once the last step is noted the watches are up to
-  -- date
-  pub record Going (t : Turn) (s tr : List ℕ) (ws : List Watch) : Type 0 where
+-- ---- the loop
+
+module _ (p : List ℕ) (start budget : ℕ) (s₀ t₀ : List ℕ) (ws₀ : List Watch) where
+  abbrev Left : Outcome → List Watch → Type 0
+  Left o ws = both o ws ≡ watch_outcome p start budget s₀ t₀ ws₀
+
+  -- the run goes on: what is left of it gives the whole one's outcome, places and state, and the watches are up to date
+  pub record Going (r : Run) (s tr : List ℕ) (ws : List Watch) : Type 0 where
     pub js : List ℕ
-    pub on : t.going ≡ true
-    pub asked : checked ≡ Count (line_count p)
     pub few : line_count p ≤ max_lines
-    pub tally : t.steps ≡ length js
-    pub within : t.steps ≤ budget
+    pub tally : r.steps ≡ length js
+    pub within : r.steps ≤ budget
     pub wide : row_width * budget ≤ length tr
     pub right : unwatchable ws₀ ≡ false
-    pub rest : run_from p (line_count p) (budget - t.steps) (machine (run_of t) s tr) ≡ run_outcome p start budget s₀ t₀
-    pub places : js ++ places_written (lines p) (budget - t.steps) t.counter s ≡ places_written (lines p) budget start s₀
-    pub final : (run_on (lines p) (budget - t.steps) t.counter s t.bus).state ≡ (run (lines p) budget start s₀).state
-    pub seen : map (noted s t.place t.steps) ws ≡ map (watched js s) ws₀
+    pub rest : run_from p (line_count p) (budget - r.steps) (machine r s tr) ≡ run_outcome p start budget s₀ t₀
+    pub places : js ++ places_written (lines p) (budget - r.steps) r.counter s ≡ places_written (lines p) budget start s₀
+    pub final : (run_on (lines p) (budget - r.steps) r.counter s r.bus).state ≡ (run (lines p) budget start s₀).state
+    pub seen : ws ≡ map (watched js s) ws₀
 
-  abbrev pub Over : Turn → List ℕ → List ℕ → List Watch → Type 0
-  Over t s tr ws = both (outcome (told checked t) (s ∷ tr ∷ [])) ws ≡ watch_outcome p start budget s₀ t₀ ws₀
+  -- before the first step
+  pub begins_at : (ws : List Watch) → admission p budget (length s₀) (length t₀) (unwatchable ws₀) ≡ counted (line_count p) → ws ≡ map (fresh s₀) ws₀
+      → Going (record { counter = start; steps = 0; bus = 0 }) s₀ t₀ ws
+  begins_at ws e f =
+      let n = line_count p in
+      let a = passed p budget (length s₀) (length t₀) (unwatchable ws₀) n (sym e) in
+      let d = admitted p budget (length s₀) (length t₀) n a.asked in
+      let all_left : budget - 0 ≡ budget = omega arith in
+      record {
+        js = [];
+        few = (program_checked p n d.program).few;
+        tally = refl;
+        within = omega arith;
+        wide = d.trace;
+        right = a.right;
+        rest = begins p n budget (machine (record { counter = start; steps = 0; bus = 0 }) s₀ t₀) ∙ runs p start budget s₀ t₀ n a.asked;
+        places = ap (λ (m : ℕ). places_written (lines p) m start s₀) all_left;
+        final = ap (λ (m : ℕ). (run (lines p) m start s₀).state) all_left;
+        seen = f ∙ none_noted s₀ ws₀;
+      }
 
-  abbrev pub Stands : Bool → Turn → List ℕ → List ℕ → List Watch → Type 0
-  Stands true t s tr ws = Going t s tr ws
-  Stands false t s tr ws = Over t s tr ws
-
-  -- the first moment, or a refusal
-  pub begins_at : report checked ≡ admission p budget (length s₀) (length t₀) (unwatchable ws₀) → Stands (begun checked start).going (begun checked start) s₀ t₀ ws₀
-  begins_at e = go checked refl
-    where
-      starts : (n : ℕ) → checked ≡ Count n → Passed p budget (length s₀) (length t₀) (unwatchable ws₀) n → Going (begun (Count n) start) s₀ t₀ ws₀
-      starts n a f =
-          let d = admitted p budget (length s₀) (length t₀) n f.asked in
-          let x = program_checked p n d.program in
-          let all_left : budget - 0 ≡ budget = omega arith in
-          record {
-            js = [];
-            on = refl;
-            asked = a ∙ ap (λ (m : ℕ). Count m) x.count;
-            few = omega (arith, x.few, x.count);
-            tally = refl;
-            within = omega arith;
-            wide = d.trace;
-            right = f.right;
-            rest = begins p (line_count p) budget (machine (record { counter = start; steps = 0; bus = 0 }) s₀ t₀) ∙ runs p start budget s₀ t₀ n f.asked;
-            places = ap (λ (m : ℕ). places_written (lines p) m start s₀) all_left;
-            final = ap (λ (m : ℕ). (run (lines p) m start s₀).state) all_left;
-            seen = none_noted s₀ state_size ws₀;
-          }
-
-      go : (a : Answer) → checked ≡ a → Stands (begun checked start).going (begun checked start) s₀ t₀ ws₀
-      go (Count n) a = subst (λ (c : Answer). Stands (begun c start).going (begun c start) s₀ t₀ ws₀) (sym a) (starts n a (passed p budget (length s₀) (length t₀) (unwatchable ws₀) n (sym (ap report a) ∙ e)))
-      go (Halted i j) a = absurd (no_ending 0 i j (answers p budget (length s₀) (length t₀) (unwatchable ws₀)) (sym (ap report a) ∙ e))
-      go (Spent i j) a = absurd (no_ending 1 i j (answers p budget (length s₀) (length t₀) (unwatchable ws₀)) (sym (ap report a) ∙ e))
-      go (Refused i j) a = subst (λ (c : Answer). Stands (begun c start).going (begun c start) s₀ t₀ ws₀) (sym a)
-          (ap (λ (c : Answer). both (outcome (told c (begun (Refused i j) start)) (s₀ ∷ t₀ ∷ [])) ws₀) a ∙ turned_down p start budget s₀ t₀ ws₀ i j (sym (ap report a) ∙ e))
-
-  -- from moment to moment
-  module _ (t : Turn) (s tr : List ℕ) (ws : List Watch) (small : budget < 2 ^ 16) (i : Going t s tr ws) where
-    abbrev m : Moment
-    m = moment t s tr
-
-    abbrev l : Line
-    l = line_at p t.counter
-
-    abbrev ws' : List Watch
-    ws' = map (noted s t.place t.steps) ws
-
-    abbrev Next : Moment → Type 0
-    Next m' = length m'.trace ≡ length tr → Stands m'.turn.going m'.turn m'.state m'.trace ws' × (fuel budget m'.turn < fuel budget t)
+  module _ (r : Run) (s tr : List ℕ) (ws : List Watch) (i : Going r s tr ws) where
+    abbrev m : Machine
+    m = machine r s tr
 
     -- an end: nothing is left to write
-    ends_by : (vs : List ℕ) → ending (line_count p) t ≡ done vs → outcome (done vs) (s ∷ tr ∷ []) ≡ run_outcome p start budget s₀ t₀ → places_written (lines p) (budget - t.steps) t.counter s ≡ []
-        → (run_on (lines p) (budget - t.steps) t.counter s t.bus).state ≡ s → Next (ended m)
-    ends_by vs h e none_left stays _ =
+    ends_by : (vs : List ℕ) → outcome (done vs) (s ∷ tr ∷ []) ≡ run_outcome p start budget s₀ t₀ → places_written (lines p) (budget - r.steps) r.counter s ≡ []
+        → (run_on (lines p) (budget - r.steps) r.counter s r.bus).state ≡ s → Left (outcome (done vs) (s ∷ tr ∷ [])) ws
+    ends_by vs e none_left stays =
         let js-all = sym (append-nil i.js) ∙ ap (λ (u : List ℕ). i.js ++ u) (sym none_left) ∙ i.places in
-        let last : s ≡ (run (lines p) budget start s₀).state = sym stays ∙ i.final in (
-          ap (λ (c : Answer). both (outcome (told c (ended m).turn) (s ∷ tr ∷ [])) ws') i.asked ∙ ap (λ (r : Report). both (outcome r (s ∷ tr ∷ [])) ws') h ∙ ap (λ (o : Outcome). both o ws') e
-              ∙ ap (λ (us : List Watch). both (run_outcome p start budget s₀ t₀) us) (i.seen ∙ ap (λ (u : List ℕ). map (watched u s) ws₀) js-all ∙ ap (λ (u : State). map (watched (places_written (lines p) budget start s₀) u) ws₀) last)
-              ∙ watch-ran p start budget s₀ t₀ ws₀ vs (sym (ap (λ (o : Outcome). o.answer) e)) i.right,
-          rw i.on (omega arith),
-        )
+        let last : s ≡ (run (lines p) budget start s₀).state = sym stays ∙ i.final in
+        ap (λ (o : Outcome). both o ws) e
+        ∙ ap (λ (us : List Watch). both (run_outcome p start budget s₀ t₀) us) (i.seen ∙ ap (λ (u : List ℕ). map (watched u s) ws₀) js-all ∙ ap (λ (u : State). map (watched (places_written (lines p) budget start s₀) u) ws₀) last)
+        ∙ watch-ran p start budget s₀ t₀ ws₀ vs (sym (ap (λ (o : Outcome). o.answer) e)) i.right
 
-    halted_next : line_count p ≤ t.counter → Next (ended m)
-    halted_next h =
-        ends_by (0 ∷ t.counter ∷ t.steps ∷ []) (rw (le-ltb t.counter (line_count p) h))
-        (sym (halts p (line_count p) (budget - t.steps) (machine (run_of t) s tr) h) ∙ i.rest)
-        (none_written (lines p) (budget - t.steps) t.counter s (no_line p t.counter h))
-        (ap (λ (x : Ran). x.state) (stopped (lines p) t.counter s t.bus (no_line p t.counter h) (budget - t.steps)))
+    pub ends_halted : line_count p ≤ r.counter → Left (halted_at m) ws
+    ends_halted h =
+        ends_by (0 ∷ r.counter ∷ r.steps ∷ []) (sym (halts p (line_count p) (budget - r.steps) m h) ∙ i.rest)
+        (none_written (lines p) (budget - r.steps) r.counter s (no_line p r.counter h))
+        (ap (λ (x : Ran). x.state) (stopped (lines p) r.counter s r.bus (no_line p r.counter h) (budget - r.steps)))
 
-    spent_next : t.counter < line_count p → budget ≤ t.steps → Next (ended m)
+    pub ends_spent : r.counter < line_count p → budget ≤ r.steps → Left (spent_at m) ws
     unfolding places_written
-    spent_next h k =
-        let z : budget - t.steps ≡ 0 = omega (arith, k) in
-        ends_by (1 ∷ t.counter ∷ t.steps ∷ []) (rw (lt-ltb t.counter (line_count p) h))
-        (sym (spends p (line_count p) budget (machine (run_of t) s tr) h k) ∙ i.rest) (rw z) (rw z (ap (λ (x : Ran). x.state) (run-zero (lines p) t.counter s t.bus)))
+    ends_spent h k =
+        let z : budget - r.steps ≡ 0 = omega (arith, k) in
+        ends_by (1 ∷ r.counter ∷ r.steps ∷ []) (sym (spends p (line_count p) budget m h k) ∙ i.rest) (rw z)
+        (rw z (ap (λ (x : Ran). x.state) (run-zero (lines p) r.counter s r.bus)))
 
-    step_next : t.counter < line_count p → t.steps < budget → Next (stepped p m)
+    -- a step
+    abbrev l : Line
+    l = line_at p r.counter
+
+    abbrev Next : Machine → Type 0
+    Next m' = length m'.trace ≡ length tr → Going m'.run m'.state m'.trace (map (noted m'.state (place l.destination s) m'.run.steps) ws)
+
+    step_next : budget < 2 ^ 16 → r.counter < line_count p → r.steps < budget → Next (step_of p m)
     unfolding step_by
-    step_next h k wide' =
-        let z : budget - t.steps ≡ suc (budget - (t.steps + 1)) = omega (arith, k) in (
-          record {
-            js = i.js ++ place l.destination s ∷ [];
-            on = refl;
-            asked = i.asked;
-            few = i.few;
-            tally = omega (arith, i.tally, length-append i.js (place l.destination s ∷ []));
-            within = omega (arith, k);
-            wide = omega (arith, wide', i.wide);
-            right = i.right;
-            rest = goes_on p (line_count p) budget (machine (run_of t) s tr) (step_of p (machine (run_of t) s tr)) _ h k refl i.rest;
-            places = append_assoc i.js (place l.destination s ∷ []) _ ∙ ap (λ (u : List ℕ). i.js ++ u) (sym (one_written (lines p) _ t.counter s l (get_line p t.counter h))) ∙ ap (λ (n : ℕ). i.js ++ places_written (lines p) n t.counter s) (sym z) ∙ i.places;
-            final = ap (λ (x : Ran). x.state) (sym (step_run (lines p) t.counter s t.bus l (get_line p t.counter h) _)) ∙ ap (λ (n : ℕ). (run_on (lines p) n t.counter s t.bus).state) (sym z) ∙ i.final;
-            seen = ap (λ (us : List Watch). map (noted (after l s) (place l.destination s) (t.steps + 1)) us) i.seen ∙ all_noted i.js l s (t.steps + 1) ws₀ (omega (arith, i.tally)) (omega (arith, k, small));
-          },
-          rw i.on (omega (arith, k)),
-        )
+    step_next small h k wide' =
+        let z : budget - r.steps ≡ suc (budget - (r.steps + 1)) = omega (arith, k) in
+        record {
+          js = i.js ++ place l.destination s ∷ [];
+          few = i.few;
+          tally = omega (arith, i.tally, length-append i.js (place l.destination s ∷ []));
+          within = omega (arith, k);
+          wide = omega (arith, wide', i.wide);
+          right = i.right;
+          rest = goes_on p (line_count p) budget m (step_of p m) _ h k refl i.rest;
+          places = append_assoc i.js (place l.destination s ∷ []) _ ∙ ap (λ (u : List ℕ). i.js ++ u) (sym (one_written (lines p) _ r.counter s l (get_line p r.counter h))) ∙ ap (λ (n : ℕ). i.js ++ places_written (lines p) n r.counter s) (sym z) ∙ i.places;
+          final = ap (λ (x : Ran). x.state) (sym (step_run (lines p) r.counter s r.bus l (get_line p r.counter h) _)) ∙ ap (λ (n : ℕ). (run_on (lines p) n r.counter s r.bus).state) (sym z) ∙ i.final;
+          seen = ap (λ (us : List Watch). map (noted (after l s) (place l.destination s) (r.steps + 1)) us) i.seen ∙ all_noted i.js l s (r.steps + 1) ws₀ (omega (arith, i.tally)) (omega (arith, k, small));
+        }
 
-    pub goes_to_lem : (t' : Turn) (s' tr' : List ℕ) → moment t' s' tr' ≡ turned p budget m → length tr' ≡ length tr → Stands t'.going t' s' tr' ws' × (fuel budget t' < fuel budget t)
-    unfolding turned
-    goes_to_lem t' s' tr' e = subst Next (sym e) (by_end (leb (line_count p) t.counter) refl)
-      where
-        by_budget : t.counter < line_count p → (u : Bool) → leb budget t.steps ≡ u → Next (cond u (ended m) (stepped p m))
-        by_budget h true f = spent_next h (leb-true _ _ f)
-        by_budget h false f = step_next h (leb-false _ _ f)
-
-        by_end : (u : Bool) → leb (line_count p) t.counter ≡ u → Next (cond (u || leb budget t.steps) (ended m) (stepped p m))
-        by_end true f = halted_next (leb-true (line_count p) t.counter f)
-        by_end false f = by_budget (leb-false (line_count p) t.counter f) (leb budget t.steps) refl
+    pub goes_to : (x : Stepped) (s' tr' : List ℕ) (ws' : List Watch) → budget < 2 ^ 16 → r.counter < line_count p → r.steps < budget → machine x.run s' tr' ≡ step_of p m
+        → x.place ≡ place l.destination s → length tr' ≡ length tr → ws' ≡ map (noted s' x.place x.run.steps) ws → Going x.run s' tr' ws'
+    goes_to x s' tr' ws' small h k e q wide' f =
+        let next : Next (machine x.run s' tr') = subst Next (sym e) (step_next small h k) in
+        subst (λ (us : List Watch). Going x.run s' tr' us) (sym (f ∙ ap (λ (j : ℕ). map (noted s' j x.run.steps) ws) q)) (next wide')

@@ -1,6 +1,6 @@
 -- The places that a run writes, and what a watch holds of them: one write more, and the state after the last one.
 -- Assumes nothing.
-use Rattle.std.proofs.Common.{◌≡◌, ℕ, zero, suc, ◌+◌, ◌%◌, ◌^◌, ◌<◌, ◌≤◌, Bool, true, false, cond, eqb, ltb, List, [], ◌∷◌, ◌++◌, map, length, get_or, set, sym, refl, ap, ◌∙◌, mod-eq_of_lt, arith, get_or-set_other, ltb-false, lt-ltb, ne_eqb}
+use Rattle.std.proofs.Common.{◌≡◌, ℕ, zero, suc, ◌+◌, ◌%◌, ◌^◌, ◌<◌, ◌≤◌, Bool, true, false, cond, eqb, ltb, List, [], ◌∷◌, ◌++◌, map, length, get_or, set, sym, refl, ap, ◌∙◌, mod-eq_of_lt, arith, get_or-set_other, ltb-false, lt-ltb}
 use mathlib.Core.Option.{Option, none, some}
 use lib.ListN.{get_elem?}
 use borrow.Author.Tests.{eqb-false}
@@ -12,7 +12,7 @@ use Rattle.model.proofs.Runs.{step_run, stopped, run-zero}
 use Rattle.watch.specs.declared.Watch.{Watch}
 use Rattle.watch.specs.Watches.{places_written, writes_to, last_step, watch, watched}
 use Rattle.watch.specs.Claims.{OneEach, LastWrite}
-use Rattle.watch.specs.Turns.{noted}
+use Rattle.watch.specs.Noting.{fresh, noted}
 
 -- ---- one write more
 
@@ -50,7 +50,7 @@ last_more i j (k ∷ js) = rw (last_more i j js) (go (eqb i j))
 -- a watch that was up to date is so again once the next write is noted
 one_noted : (js : List ℕ) (s : State) (q x k : ℕ) (w : Watch) → k ≡ length js + 1 → k < 2 ^ 16 → noted (set s q x) q k (watched js s w) ≡ watched (js ++ q ∷ []) (set s q x) w
 one_noted js s q x k w ek hk =
-    rw (ne_eqb k 0 (λ e. omega (arith, e, ek)), writes_more w.place q js, last_more w.place q js) (go (eqb w.place q) refl)
+    rw (writes_more w.place q js, last_more w.place q js) (go (eqb w.place q) refl)
   where
     i : ℕ
     i = w.place
@@ -81,10 +81,10 @@ all_noted js l s k ws ek hk =
     rw (set_after l s) (fused _ (watched js s) (watched (js ++ place l.destination s ∷ []) (set s (place l.destination s) (result l s))) (λ w. one_noted js s (place l.destination s) (result l s) k w ek hk) ws)
 
 -- before the first step
-pub none_noted : (s : State) (q : ℕ) (ws : List Watch) → map (noted s q 0) ws ≡ map (watched [] s) ws
+pub none_noted : (s : State) (ws : List Watch) → map (fresh s) ws ≡ map (watched [] s) ws
 unfolding writes_to last_step
-none_noted s q [] = refl
-none_noted s q (w ∷ ws) = rw (none_noted s q ws)
+none_noted s [] = refl
+none_noted s (w ∷ ws) = rw (none_noted s ws)
 
 -- ---- the places that are left
 

@@ -1,3 +1,3 @@
 pub mod Watches
 pub mod Claims
-pub mod Turns
+pub mod Noting

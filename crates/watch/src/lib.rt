@@ -1,19 +1,16 @@
 // Request 09 of document 02: a list of up to eight watches, each naming a place, is lent to a run and brought up to date after each step.
-// The list is a slice of structs, and what is done to one watch is `noted`. Callers with the places alone have `watch_places`.
+// The list is a slice of structs, and what is done to one watch is `fresh` and `reached`. Callers with the places alone have `watch_places`.
 
 #![tactic(auto)]
 
 ghost use Rattle.std.specs.Prelude.{◌≡◌, ◌*◌, ◌<◌, ◌≤◌, ◌||◌, [], ◌∷◌, map, length, nat_le, nat_lt};
-ghost use Rattle.model.specs.Limits.{max_lines, row_width, state_size};
-ghost use Rattle.model.specs.Answers.{report, outcome};
+ghost use Rattle.model.specs.Answers.{report, ended, run_report, counted, outcome};
 ghost use Rattle.model.specs.Stored.{line_count};
-ghost use Rattle.machine.specs.Loop.{addresses, Masks, Weights};
-ghost use Rattle.watch.specs.Watches.{max_watches, unused, unwatchable, both, watch_outcome};
-ghost use Rattle.watch.specs.Turns.{noted, concerns, admission, begun, moment, turned, told};
+ghost use Rattle.watch.specs.Watches.{unused, unwatchable, both, watch_outcome};
+ghost use Rattle.watch.specs.Noting.{fresh, reached, noted, admission};
 
-use machine::PLACES;
 use machine::steps::Run;
-use model::{Answer, LINE_WIDTH, STATE_SIZE};
+use model::{Condition, Ending, LINE_WIDTH, Refusal, STATE_SIZE};
 
 pub mod twice;
 
@@ -31,184 +28,116 @@ pub struct Watch {
     pub step: u16,
 }
 
-// One watch after step `step`, which wrote `place` and left `state`. Step 0 is the moment before the first: the watch is set anew.
-fn noted(w: Watch, state: &[u8], place: usize, step: u16) -> Watch
-    ensures { result ≡ noted state.now place step w }
+// One watch before the first step: nothing but its place is kept.
+fn fresh(w: Watch, state: &[u8]) -> Watch
+    ensures { result ≡ fresh state.now w }
 {
-    let at = w.place as usize;
-    if step == 0 {
-        return Watch {
-            place: w.place,
-            value: machine::read(state, at),
-            writes: 0,
-            step: 0,
-        };
+    Watch {
+        value: machine::read(state, w.place as usize),
+        ..unused(w.place)
     }
-    if at == place {
-        return Watch {
-            place: w.place,
-            value: machine::read(state, place),
-            writes: std::num::wrapping_add_u16(w.writes, 1),
-            step,
-        };
-    }
-    w
 }
 
-// Whether `noted` may change the watch. Most steps concern none, and asking first is quicker than writing each watch again.
-fn concerns(w: Watch, place: usize, step: u16) -> bool
-    ensures { result ≡ concerns place step w }
+// One watch after step `step`, which wrote its place and left `state`.
+fn reached(w: Watch, state: &[u8], step: u16) -> Watch
+    ensures { result ≡ reached state.now step w }
 {
-    step == 0 || (w.place as usize) == place
+    Watch {
+        place: w.place,
+        value: machine::read(state, w.place as usize),
+        writes: w.writes.wrapping_add(1),
+        step,
+    }
 }
 
-// Every watch.
+// Every watch before the first step.
+fn begin(watches: &mut [Watch], state: &[u8])
+    ensures { watches.new ≡ map (fresh state.now) watches.old }
+{
+    for w in watches.iter_mut() {
+        *w = fresh(*w, state);
+    }
+}
+
+// Every watch after a step that wrote `place`. Most steps reach none, and asking first is quicker than writing each watch again.
 fn note(watches: &mut [Watch], state: &[u8], place: usize, step: u16)
     ensures { watches.new ≡ map (noted state.now place step) watches.old }
 {
-    let mut i: usize = 0;
-    while i < watches.len() {
-        let w = watches[i];
-        if concerns(w, place, step) {
-            watches[i] = noted(w, state, place, step);
+    for w in watches.iter_mut() {
+        if (w.place as usize) == place {
+            *w = reached(*w, state, step);
         }
-        i = i + 1;
     }
-}
-
-fn too_many(n: usize) -> bool
-    ensures { result ≡ nat_lt max_watches n }
-{
-    n > MAX_WATCHES
-}
-
-fn or_past(found: bool, w: Watch) -> bool
-    ensures { result ≡ found || nat_le state_size w.place }
-{
-    found || (w.place as usize) >= STATE_SIZE
 }
 
 // Whether 26 holds: more than eight watches, or a place past the state.
 fn unwatchable(watches: &[Watch]) -> bool
     ensures { result ≡ unwatchable watches.now }
 {
-    let mut found = too_many(watches.len());
-    let mut i: usize = 0;
-    while i < watches.len() {
-        found = or_past(found, watches[i]);
-        i = i + 1;
-    }
-    found
+    let too_many = watches.len() > MAX_WATCHES;
+    too_many || watches.iter().any(|w| (w.place as usize) >= STATE_SIZE)
 }
 
 // The refusals of a run, then 26; else the count of lines.
-fn admit(program: &[u16], budget: u16, size: usize, room: usize, wrong: bool) -> Answer
+fn admit(
+    program: &[u16],
+    budget: u16,
+    size: usize,
+    room: usize,
+    wrong: bool,
+) -> Result<u32, Refusal>
     ensures { report result ≡ admission program.now budget size room wrong }
 {
-    let checked = machine::admit(program, budget, size, room);
-    let Answer::Count(_) = checked else {
-        return checked;
-    };
+    let count = machine::admit(program, budget, size, room)?;
     if wrong {
-        return Answer::Refused {
-            number: 26,
+        return Err(Refusal {
+            condition: Condition::WrongWatch,
             line: 0,
-        };
+        });
     }
-    checked
+    Ok(count)
 }
 
-// Where a watched run stands between two turns: whether it goes on, the run's counter, step tally and bus, and the place that its last step
-// wrote.
-#[derive(Clone, Copy)]
-struct Turn {
-    going: bool,
-    counter: u16,
-    steps: u16,
-    bus: u16,
-    place: usize,
-}
-
-// Before the first step. A refused run does not go on.
-fn begun(checked: Answer, start: u16) -> Turn
-    ensures { result ≡ begun checked start }
+// At most `budget` steps of a program that neither the run nor its watches refuse. After each step the watches are brought up to date with it.
+fn run_lines(
+    program: &[u16],
+    start: u16,
+    budget: u16,
+    state: &mut [u8],
+    trace: &mut [u16],
+    watches: &mut [Watch],
+) -> Ending
+    requires { admission program.now budget (length state.old) (length trace.old) (unwatchable watches.old) ≡ counted (line_count program.now) }
+    ensures { both (outcome (ended result) (state.new ∷ trace.new ∷ [])) watches.new ≡ watch_outcome program.now start budget state.old trace.old watches.old }
 {
-    let Answer::Count(_) = checked else {
-        return Turn {
-            going: false,
-            counter: start,
-            steps: 0,
-            bus: 0,
-            place: STATE_SIZE,
-        };
-    };
-    Turn {
-        going: true,
+    let count = program.len() / LINE_WIDTH;
+    let masks = machine::all_masks();
+    let weights = machine::all_weights();
+    let mut run = Run {
         counter: start,
         steps: 0,
         bus: 0,
-        place: STATE_SIZE,
-    }
-}
-
-// One turn: a step, with the place that it writes; at the end of the program or of the budget none.
-fn turned(
-    t: Turn,
-    program: &[u16],
-    budget: u16,
-    masks: &[u8; PLACES],
-    weights: &[u16; PLACES],
-    state: &mut [u8],
-    trace: &mut [u16],
-) -> Turn
-    requires { Masks masks.now × Weights weights.now × (t.bus < addresses) × (line_count program.now ≤ max_lines) × (row_width * budget ≤ length trace.old) }
-    ensures { (moment result state.new trace.new ≡ turned program.now budget (moment t state.old trace.old)) × (result.bus < addresses) }
-{
-    let counter = t.counter;
-    let steps = t.steps;
-    let bus = t.bus;
-    if program.len() / LINE_WIDTH <= (counter as usize) || budget <= steps {
-        return Turn {
-            going: false,
-            counter,
-            steps,
-            bus,
-            place: t.place,
-        };
-    }
-    let run = Run {
-        counter,
-        steps,
-        bus,
     };
-    let next = run.step_seen(program, masks, weights, state, trace);
-    Turn {
-        going: true,
-        counter: next.counter,
-        steps: next.steps,
-        bus: next.bus,
-        place: next.place,
+    begin(watches, state);
+    while (run.counter as usize) < count {
+        if budget <= run.steps {
+            return Ending::Spent {
+                counter: run.counter,
+                steps: run.steps,
+            };
+        }
+        let stepped = run.step(program, &masks, &weights, state, trace);
+        run = stepped.run;
+        note(watches, state, stepped.place, run.steps);
     }
-}
-
-// What the run answers: its refusal, else spent where it stands below the count of lines, and halted where it does not.
-fn told(checked: Answer, t: Turn) -> Answer
-    ensures { report result ≡ told checked t }
-{
-    let Answer::Count(count) = checked else {
-        return checked;
-    };
-    let counter = t.counter;
-    let steps = t.steps;
-    if (counter as u32) < count {
-        return Answer::Spent { counter, steps };
+    Ending::Halted {
+        counter: run.counter,
+        steps: run.steps,
     }
-    Answer::Halted { counter, steps }
 }
 
 // A run with watches. Answer, state and trace are those of `run`; 26 comes after its refusals. A refusal leaves everything lent as it is;
-// else what the watches held before, their place aside, does not matter. At the head of each turn the watches are brought up to date with
-// the step before; the first time, with none.
+// else what the watches held before, their place aside, does not matter.
 pub fn run_watched(
     program: &[u16],
     start: u16,
@@ -216,20 +145,12 @@ pub fn run_watched(
     state: &mut [u8],
     trace: &mut [u16],
     watches: &mut [Watch],
-) -> Answer
-    ensures { both (outcome (report result) (state.new ∷ trace.new ∷ [])) watches.new ≡ watch_outcome program.now start budget state.old trace.old watches.old }
+) -> Result<Ending, Refusal>
+    ensures { both (outcome (run_report result) (state.new ∷ trace.new ∷ [])) watches.new ≡ watch_outcome program.now start budget state.old trace.old watches.old }
 {
     let wrong = unwatchable(watches);
-    let checked = admit(program, budget, state.len(), trace.len(), wrong);
-    let masks = machine::all_masks();
-    let weights = machine::all_weights();
-    let mut t = begun(checked, start);
-    while t.going {
-        note(watches, state, t.place, t.steps);
-        let next = turned(t, program, budget, &masks, &weights, state, trace);
-        t = next;
-    }
-    told(checked, t)
+    admit(program, budget, state.len(), trace.len(), wrong)?;
+    Ok(run_lines(program, start, budget, state, trace, watches))
 }
 
 // A fresh watch of a place.
@@ -244,32 +165,11 @@ fn unused(place: u16) -> Watch
     }
 }
 
-fn unused_all(places: [u16; MAX_WATCHES]) -> [Watch; MAX_WATCHES]
-    ensures { result ≡ map unused places }
-{
-    [
-        unused(places[0]),
-        unused(places[1]),
-        unused(places[2]),
-        unused(places[3]),
-        unused(places[4]),
-        unused(places[5]),
-        unused(places[6]),
-        unused(places[7]),
-    ]
-}
-
 // What a watched run answers, and its watches.
 #[derive(Clone, Copy)]
 pub struct Seen {
-    pub answer: Answer,
+    pub answer: Result<Ending, Refusal>,
     pub watches: [Watch; MAX_WATCHES],
-}
-
-fn gathered(answer: Answer, watches: [Watch; MAX_WATCHES]) -> Seen
-    ensures { (result.answer ≡ answer) × (result.watches ≡ watches) }
-{
-    Seen { answer, watches }
 }
 
 // A run that watches eight places, for callers that lend no watches. A place may be named more than once, so for fewer than eight one is.
@@ -281,9 +181,9 @@ pub fn watch_places(
     trace: &mut [u16],
     places: [u16; MAX_WATCHES],
 ) -> Seen
-    ensures { both (outcome (report result.answer) (state.new ∷ trace.new ∷ [])) result.watches ≡ watch_outcome program.now start budget state.old trace.old (map unused places) }
+    ensures { both (outcome (run_report result.answer) (state.new ∷ trace.new ∷ [])) result.watches ≡ watch_outcome program.now start budget state.old trace.old (map unused places) }
 {
-    let mut watches = unused_all(places);
+    let mut watches = places.map(unused);
     let answer = run_watched(program, start, budget, state, trace, &mut watches);
-    gathered(answer, watches)
+    Seen { answer, watches }
 }

@@ -3,5 +3,5 @@
 use Rattle.balance.proofs.EntryRuns.{follow_claim}
 use Rattle.balance.proofs.follow.Goals as goal
 
-pub returns : goal.returns
-returns c = let e = c.run-source.ensures in let f = c.run-expansion.ensures in let g = c.from_image-decoded.ensures in record { trace_after = e; shown_after = f; back_after = g; following_calls = λ W. follow_claim _ _ _ _ _ _ _ _ _ _ _ _ _ _ _ _ _ _ _ _ _ e f g W }
+pub returns-clause-following_calls : goal.returns-clause-following_calls
+returns-clause-following_calls c = λ W. follow_claim _ _ _ _ _ _ _ _ _ _ _ _ _ _ _ _ _ _ _ _ _ c.run.ensures c.run-2.ensures c.from_image.ensures W

@@ -3,5 +3,5 @@
 use Rattle.balance.proofs.EntryRuns.{twin_claim}
 use Rattle.balance.proofs.twin_runs.Goals as goal
 
-pub returns : goal.returns
-returns c = let e = c.run-first.ensures in let f = c.run-second.ensures in record { trace_after = e; twin_after = f; same_calls = λ W. twin_claim _ _ _ _ _ _ _ _ _ e f W }
+pub returns-clause-same_calls : goal.returns-clause-same_calls
+returns-clause-same_calls c = λ W. twin_claim _ _ _ _ _ _ _ _ _ c.run.ensures c.run-2.ensures W

@@ -13,8 +13,5 @@ invariant-loop-j l =
     (l.n ≡ length (values (lists_of l.initial.sets) l.at)) × (get_or l.found 0 0 ≤ set_width) × (length l.found ≡ suc set_width)
     × Turned (line_by l.line) l.counter l.initial.sets l.initial.state l.level l.k l.at (gathered (listed l.initial.found) l.leak l.initial.row) l.sets l.state (gathered (listed l.found) l.seen l.row) l.j
 
-abbrev pub decreases-loop-j : goal.decreases-loop-j
-decreases-loop-j l = l.n - l.j
-
 abbrev pub decreases-explore : goal.decreases-explore
 decreases-explore l = argument_places - l.level

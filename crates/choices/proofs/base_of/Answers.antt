@@ -14,17 +14,17 @@ no-base n h =
     by_form n (λ o. base o ≡ state_size) (λ l. refl) (λ g l. refl) (λ g l. refl) (λ g l. refl)
     (λ g l. absurd (omega arith)) (λ g l. absurd (omega arith)) (λ g. absurd (omega arith))
 
-pub returns-then-code-lt-PUBLICS : goal.returns-then-code-lt-PUBLICS
-returns-then-code-lt-PUBLICS c = sym (no-base _ c.if-code-lt-PUBLICS.true)
+pub returns-in-0-to-800 : goal.returns-in-0-to-800
+returns-in-0-to-800 c = sym (no-base _ (omega arith))
 
-pub returns-then-code-lt-SENSITIVES : goal.returns-then-code-lt-SENSITIVES
+pub returns-in-801-to-4896 : goal.returns-in-801-to-4896
 unfolding base
-returns-then-code-lt-SENSITIVES c = rw (public_cell _ c.if-code-lt-PUBLICS.false c.if-code-lt-SENSITIVES.true)
+returns-in-801-to-4896 c = rw (public_cell c.args.code (omega arith) (omega arith))
 
-pub returns-then-code-lt-TABLES : goal.returns-then-code-lt-TABLES
+pub returns-in-4897-to-8992 : goal.returns-in-4897-to-8992
 unfolding base
-returns-then-code-lt-TABLES c = rw (sensitive_cell _ c.if-code-lt-SENSITIVES.false c.if-code-lt-TABLES.true)
+returns-in-4897-to-8992 c = rw (sensitive_cell c.args.code (omega arith) (omega arith))
 
-pub returns : goal.returns
+pub returns-in-8993-to-65535 : goal.returns-in-8993-to-65535
 unfolding base
-returns c = rw (table_cell _ c.if-code-lt-TABLES.false)
+returns-in-8993-to-65535 c = rw (table_cell c.args.code (omega arith))

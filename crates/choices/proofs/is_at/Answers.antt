@@ -6,20 +6,20 @@ use Rattle.model.specs.Step.{distance}
 use Rattle.choices.proofs.Turns.{all_over, all_next, one_off}
 use Rattle.choices.proofs.is_at.Goals as goal
 
-pub size_of-n-requires : goal.size_of-n-requires
-size_of-n-requires c = c.requires.0
+pub size_of-j-end-requires : goal.size_of-j-end-requires
+size_of-j-end-requires c = c.requires.0
 
 pub loop-j-init : goal.loop-j-init
-loop-j-init c = (omega arith, refl)
+loop-j-init c = refl
 
 pub value_of-requires : goal.value_of-requires
-value_of-requires c = (c.requires.0, omega (arith, c.size_of-n.ensures))
+value_of-requires c = (c.requires.0, omega (arith, c.size_of-j-end.ensures))
 
 pub returns-then-distance_of-distance : goal.returns-then-distance_of-distance
-returns-then-distance_of-distance c = sym (one_off _ c.loop-j.j c.args.distance c.args.res (omega (arith, c.size_of-n.ensures)) (λ q. c.if-distance_of-distance.true (c.distance_of.ensures ∙ ap (λ (v : ℕ). distance v c.args.res) c.value_of.ensures ∙ q))) ∙ c.loop-j.invariant.1
+returns-then-distance_of-distance c = sym (one_off _ c.loop-j.j c.args.distance c.args.res (omega (arith, c.size_of-j-end.ensures)) (λ q. c.if-distance_of-distance.true (c.distance_of.ensures ∙ ap (λ (v : ℕ). distance v c.args.res) c.value_of.ensures ∙ q))) ∙ c.loop-j.invariant
 
 pub loop-j-preserved : goal.loop-j-preserved
-loop-j-preserved c = (omega arith, sym (all_next _ c.loop-j.j c.args.distance c.args.res (omega (arith, c.size_of-n.ensures)) (sym (c.distance_of.ensures ∙ ap (λ (v : ℕ). distance v c.args.res) c.value_of.ensures) ∙ c.if-distance_of-distance.false)) ∙ c.loop-j.invariant.1)
+loop-j-preserved c = sym (all_next _ c.loop-j.j c.args.distance c.args.res (omega (arith, c.size_of-j-end.ensures)) (sym (c.distance_of.ensures ∙ ap (λ (v : ℕ). distance v c.args.res) c.value_of.ensures) ∙ c.if-distance_of-distance.false)) ∙ c.loop-j.invariant
 
 pub returns : goal.returns
-returns c = sym (all_over _ c.loop-j.j c.args.distance c.args.res (omega (arith, c.size_of-n.ensures))) ∙ c.loop-j.invariant.1
+returns c = sym (all_over _ c.loop-j.j c.args.distance c.args.res (omega (arith, c.size_of-j-end.ensures))) ∙ c.loop-j.invariant

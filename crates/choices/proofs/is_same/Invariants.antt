@@ -1,13 +1,8 @@
 -- `choices::is_same` meets its contract. The loop's invariant: the rows from i on are the same exactly where the rows are. Assumes nothing.
 use mathlib.Core.Path.{◌≡◌}
-use Prim.Native.Nat.{◌-◌, ◌≤◌}
 use lib.ListN.{drop}
-use Rattle.model.specs.Limits.{row_width}
 use Rattle.sets.specs.Walk.{same_row}
 use Rattle.choices.proofs.is_same.Given as goal
 
 abbrev pub invariant-loop-i : goal.invariant-loop-i
-invariant-loop-i l = (l.i ≤ row_width) × (same_row (drop l.i l.a) (drop l.i l.b) ≡ same_row l.a l.b)
-
-abbrev pub decreases-loop-i : goal.decreases-loop-i
-decreases-loop-i l = row_width - l.i
+invariant-loop-i l = same_row (drop l.i l.a) (drop l.i l.b) ≡ same_row l.a l.b

@@ -37,7 +37,7 @@ pub is_several-requires : goal.is_several-requires
 is_several-requires c = c.requires.2
 
 pub returns-then-is_several : goal.returns-then-is_several
-returns-then-is_several c = here _ _ _ _ _ c.loop-k.invariant c.loop-k-test.true (c.place_of-at.ensures ∙ ap (λ (s : State). spot (line_by c.args.line.now) c.loop-k.k s) c.requires.3) (holds (sym c.is_several.ensures ∙ c.if-is_several.true))
+returns-then-is_several c = (c.loop-k-test.true, here _ _ _ _ _ c.loop-k.invariant c.loop-k-test.true (c.place_of-at.ensures ∙ ap (λ (s : State). spot (line_by c.args.line.now) c.loop-k.k s) c.requires.3) (holds (sym c.is_several.ensures ∙ c.if-is_several.true)))
 
 pub loop-k-preserved : goal.loop-k-preserved
 loop-k-preserved c = past _ _ _ _ _ c.loop-k.invariant c.loop-k-test.true (c.place_of-at.ensures ∙ ap (λ (s : State). spot (line_by c.args.line.now) c.loop-k.k s) c.requires.3) (holds (ap not (sym c.is_several.ensures ∙ c.if-is_several.false)))

@@ -5,6 +5,7 @@ use mathlib.Core.List.{List}
 use Prim.Native.Nat.{ℕ, suc, ◌≤◌}
 use native.Mathlib.Omega.{arith}
 use borrow.Author.Tests.{le-ltb}
+use borrow.Author.Rules.{rules}
 use lib.Dec.{eqb, ltb}
 use lib.ListN.{length, get_or, drop}
 use Rattle.model.specs.declared.Line.{Line}
@@ -62,8 +63,8 @@ module _ (n : List ℕ) (k : ℕ) (b : List ℕ) (s : State) (f f' r r' : List �
   unfolding noted
   few h a ea = rw (all, le-ltb max_values (length (listed f)) (omega (arith, size)), ← en, h, ea) refl
 
-  leaked : ltb max_values (length (listed f')) ≡ false → leak ≡ true → gathered (listed f') true r' ≡ visited_all l k before (draw S (drop argument_places (involved l)))
-  leaked h t = few h true (rw t)
+  leaked : ltb max_values (length (listed f')) ≡ false → leak ≡ true → gathered (listed f') leak r' ≡ visited_all l k before (draw S (drop argument_places (involved l)))
+  leaked h t = few h leak (rw t)
 
   compared : ltb max_values (length (listed f')) ≡ false → leak ≡ false → {a : Bool} → a ≡ alike r' e.row e.result (values S e.place)
       → gathered (listed f') (not a) r' ≡ visited_all l k before (draw S (drop argument_places (involved l)))
@@ -73,7 +74,7 @@ kept-first : (a : Bool) (r xs ys : List ℕ) → r ≡ cond a xs ys → a ≡ tr
 kept-first a r xs ys q e = q ∙ rw e
 
 pub effect_of-e-requires : goal.effect_of-e-requires
-effect_of-e-requires c = (c.requires.7, omega arith)
+effect_of-e-requires c = (c.requires.3, omega arith)
 
 pub returns-then-is_overfull : goal.returns-then-is_overfull
 returns-then-is_overfull c =
@@ -82,9 +83,7 @@ returns-then-is_overfull c =
     let q = c.keep_row in
     let e = c.effect_of-e in
     let p = c.requires in
-    let o = c.is_overfull in
-    let i1 = c.if-is_overfull in
-    (many x.line.now x.counter x.sets.now x.state.now x.found.now t.new.found x.row.now q.new.row x.leak e.result p.3 p.6 p.4 p.5 (q.auto.row ∙ p.1) e.ensures q.ensures t.ensures.0 (sym o.ensures ∙ i1.true), t.ensures.1)
+    (many x.line.now x.counter x.sets.now x.state.now x.found.now t.new.found x.row.now q.new.row x.leak e.result p.0 p.2 c.told-found p.1 (search rules) e.ensures q.ensures t.ensures.0 (sym c.is_overfull.ensures ∙ c.if-is_overfull.true), t.ensures.1)
 
 pub returns-then-leak : goal.returns-then-leak
 returns-then-leak c =
@@ -93,23 +92,16 @@ returns-then-leak c =
     let q = c.keep_row in
     let e = c.effect_of-e in
     let p = c.requires in
-    let o = c.is_overfull in
-    let i1 = c.if-is_overfull in
-    let i2 = c.if-leak in
-    (leaked x.line.now x.counter x.sets.now x.state.now x.found.now t.new.found x.row.now q.new.row x.leak e.result p.3 p.6 p.4 p.5 (q.auto.row ∙ p.1) e.ensures q.ensures t.ensures.0 (sym o.ensures ∙ i1.false) i2.true, t.ensures.1)
+    (leaked x.line.now x.counter x.sets.now x.state.now x.found.now t.new.found x.row.now q.new.row x.leak e.result p.0 p.2 c.told-found p.1 (search rules) e.ensures q.ensures t.ensures.0 (sym c.is_overfull.ensures ∙ c.if-is_overfull.false) c.if-leak.true, t.ensures.1)
 
 pub is_alike-requires : goal.is_alike-requires
-is_alike-requires c = (c.keep_row.auto.row ∙ c.requires.1, kept-first _ _ _ _ c.keep_row.ensures, c.requires.2, c.requires.7)
+is_alike-requires c = (kept-first _ _ _ _ c.keep_row.ensures, search rules, c.requires.3)
 
-pub returns : goal.returns
-returns c =
+pub returns-else-leak : goal.returns-else-leak
+returns-else-leak c =
     let x = c.args in
     let t = c.note in
     let q = c.keep_row in
     let e = c.effect_of-e in
     let p = c.requires in
-    let o = c.is_overfull in
-    let i1 = c.if-is_overfull in
-    let i2 = c.if-leak in
-    let a = c.is_alike in
-    (compared x.line.now x.counter x.sets.now x.state.now x.found.now t.new.found x.row.now q.new.row x.leak e.result p.3 p.6 p.4 p.5 (q.auto.row ∙ p.1) e.ensures q.ensures t.ensures.0 (sym o.ensures ∙ i1.false) i2.false a.ensures, t.ensures.1)
+    (compared x.line.now x.counter x.sets.now x.state.now x.found.now t.new.found x.row.now q.new.row x.leak e.result p.0 p.2 c.told-found p.1 (search rules) e.ensures q.ensures t.ensures.0 (sym c.is_overfull.ensures ∙ c.if-is_overfull.false) c.if-leak.false c.is_alike.ensures, t.ensures.1)

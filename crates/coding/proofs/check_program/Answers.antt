@@ -3,8 +3,8 @@
 use mathlib.Core.Path.{◌∙◌, sym, ap}
 use Prim.Native.Nat.{ℕ}
 use native.Mathlib.Omega.{arith}
-use borrow.Author.Rules.{rules}
 use Rattle.model.specs.Answers.{refused}
+use Rattle.model.proofs.CheckAnswers.{holds_some}
 use Rattle.coding.proofs.Programs.{passes, fails, ends, begins, too_long}
 use Rattle.coding.proofs.check_program.Goals as goal
 
@@ -12,18 +12,18 @@ pub returns-then-count-gt-MAX_LINES : goal.returns-then-count-gt-MAX_LINES
 returns-then-count-gt-MAX_LINES c = too_long _ c.if-count-gt-MAX_LINES.true
 
 pub loop-i-init : goal.loop-i-init
-loop-i-init c = (search rules, begins _ (omega arith))
+loop-i-init c = begins _ (omega arith)
 
-pub returns-then-fault-ne0 : goal.returns-then-fault-ne0
-returns-then-fault-ne0 c =
+pub returns-in-Some : goal.returns-in-Some
+returns-in-Some c =
     let l = c.loop-i in
-    let e = c.fault_at-fault.ensures in
-    ap (λ (f : ℕ). refused f l.i) e ∙ sym (fails _ _ l.i c.loop-i-test.true (λ z. c.if-fault-ne0.true (e ∙ z))) ∙ l.invariant.1
+    let e = c.in-Some.ensures in
+    ap (λ (f : ℕ). refused f l.i) e ∙ sym (fails _ _ l.i c.loop-i-test.true (holds_some c.in-Some.condition e)) ∙ l.invariant
 
 pub loop-i-preserved : goal.loop-i-preserved
 loop-i-preserved c =
     let l = c.loop-i in
-    (search rules, sym (passes _ _ l.i c.loop-i-test.true (sym c.fault_at-fault.ensures ∙ c.if-fault-ne0.false)) ∙ l.invariant.1)
+    sym (passes _ _ l.i c.loop-i-test.true (sym c.in_default.ensures)) ∙ l.invariant
 
 pub returns : goal.returns
-returns c = sym (ends _ _ _ c.loop-i-test.false) ∙ c.loop-i.invariant.1
+returns c = sym (ends _ _ _ (omega arith)) ∙ c.loop-i.invariant

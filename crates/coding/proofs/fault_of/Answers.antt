@@ -10,11 +10,11 @@ returns-then-m-ge-MARKS c = let x = c.args in sym (chain x.m x.o x.d x.a x.b x.t
 pub returns-then-o-ge-OPCODES : goal.returns-then-o-ge-OPCODES
 returns-then-o-ge-OPCODES c = let x = c.args in sym (chain x.m x.o x.d x.a x.b x.t ∙ rw (lt-ltb _ _ c.if-m-ge-MARKS.false, le-ltb _ _ c.if-o-ge-OPCODES.true))
 
-pub returns-then-is_in_range : goal.returns-then-is_in_range
-returns-then-is_in_range c = let x = c.args in sym (shaped_chain x.m x.o x.d x.a x.b x.t c.if-m-ge-MARKS.false c.if-o-ge-OPCODES.false ∙ rw (← c.is_shaped.ensures, c.if-is_shaped.true, ← c.is_in_range.ensures, c.if-is_in_range.true))
+pub returns-then-not-is_shaped : goal.returns-then-not-is_shaped
+returns-then-not-is_shaped c = let x = c.args in sym (shaped_chain x.m x.o x.d x.a x.b x.t c.if-m-ge-MARKS.false c.if-o-ge-OPCODES.false ∙ rw (← c.is_shaped.ensures, c.if-not-is_shaped.true))
 
-pub returns-then-is_shaped : goal.returns-then-is_shaped
-returns-then-is_shaped c = let x = c.args in sym (shaped_chain x.m x.o x.d x.a x.b x.t c.if-m-ge-MARKS.false c.if-o-ge-OPCODES.false ∙ rw (← c.is_shaped.ensures, c.if-is_shaped.true, ← c.is_in_range.ensures, c.if-is_in_range.false))
+pub returns-then-not-is_in_range : goal.returns-then-not-is_in_range
+returns-then-not-is_in_range c = let x = c.args in sym (shaped_chain x.m x.o x.d x.a x.b x.t c.if-m-ge-MARKS.false c.if-o-ge-OPCODES.false ∙ rw (← c.is_shaped.ensures, c.if-not-is_shaped.false, ← c.is_in_range.ensures, c.if-not-is_in_range.true))
 
 pub returns : goal.returns
-returns c = let x = c.args in sym (shaped_chain x.m x.o x.d x.a x.b x.t c.if-m-ge-MARKS.false c.if-o-ge-OPCODES.false ∙ rw (← c.is_shaped.ensures, c.if-is_shaped.false))
+returns c = let x = c.args in sym (shaped_chain x.m x.o x.d x.a x.b x.t c.if-m-ge-MARKS.false c.if-o-ge-OPCODES.false ∙ rw (← c.is_shaped.ensures, c.if-not-is_shaped.false, ← c.is_in_range.ensures, c.if-not-is_in_range.false))

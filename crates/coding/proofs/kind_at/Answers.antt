@@ -1,28 +1,28 @@
--- `coding::kind_at` meets its contract: its tests are the definition's, in the same order. Assumes nothing.
+-- `coding::kind_at` meets its contract: its ranges are the definition's. Assumes nothing.
 use Rattle.model.specs.Places.{kind}
 use Rattle.coding.proofs.Tests.{tests}
 use Rattle.coding.proofs.kind_at.Goals as goal
 
-pub returns-then-i-lt4 : goal.returns-then-i-lt4
+pub returns-in-4-to-15 : goal.returns-in-4-to-15
 unfolding kind
-returns-then-i-lt4 c = search tests
+returns-in-4-to-15 c = search tests
 
-pub returns-then-i-lt16 : goal.returns-then-i-lt16
+pub returns-in-4-to-15-2 : goal.returns-in-4-to-15-2
 unfolding kind
-returns-then-i-lt16 c = search tests
+returns-in-4-to-15-2 c = search tests
 
-pub returns-then-i-lt32 : goal.returns-then-i-lt32
+pub returns-in-16-to-31 : goal.returns-in-16-to-31
 unfolding kind
-returns-then-i-lt32 c = search tests
+returns-in-16-to-31 c = search tests
 
-pub returns-then-i-lt160 : goal.returns-then-i-lt160
+pub returns-in-16-to-31-2 : goal.returns-in-16-to-31-2
 unfolding kind
-returns-then-i-lt160 c = search tests
+returns-in-16-to-31-2 c = search tests
 
-pub returns-then-i-lt288 : goal.returns-then-i-lt288
+pub returns-in_default : goal.returns-in_default
 unfolding kind
-returns-then-i-lt288 c = search tests
+returns-in_default c = search tests
 
-pub returns : goal.returns
+pub returns-in_default-2 : goal.returns-in_default-2
 unfolding kind
-returns c = search tests
+returns-in_default-2 c = search tests

@@ -4,4 +4,4 @@ use Rattle.dualrail.specs.Packing.{packed_run}
 use Rattle.dualrail.proofs.dualrail_judge.Goals as goal
 
 pub returns : goal.returns
-returns c = c.pack_verdict.ensures ∙ ap packed_run c.judge.ensures
+returns c = c.pack_judged.ensures ∙ ap packed_run c.judge.ensures

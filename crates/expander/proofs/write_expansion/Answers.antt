@@ -1,12 +1,11 @@
 -- `expander::write_expansion` meets its contract. The last of the starts is the length of the expansion; the starts that are
 -- looked up are those of the definition. Assumes nothing.
 use native.Mathlib.Omega.{arith}
-use mathlib.Core.Path.{refl}
 use Rattle.expander.proofs.Outcomes.{accepted_few, total_start, total_few, no_room, all_written}
 use Rattle.expander.proofs.write_expansion.Goals as goal
 
 pub fill_starts-requires : goal.fill_starts-requires
-fill_starts-requires c = (accepted_few c.args.program.now c.requires.1, refl)
+fill_starts-requires c = accepted_few c.args.program.now c.requires.1
 
 pub bounds-starts-count : goal.bounds-starts-count
 bounds-starts-count c = omega (arith, accepted_few c.args.program.now c.requires.1)

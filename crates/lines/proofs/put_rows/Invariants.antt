@@ -7,7 +7,4 @@ use Rattle.lines.proofs.LeftLaws.{Left}
 use Rattle.lines.proofs.put_rows.Given as goal
 
 abbrev pub invariant-loop-k : goal.invariant-loop-k
-invariant-loop-k l = (Left l.initial.out l.out l.at l.next (rows_text (length l.rows / row_width) l.rows) (rows_text (length l.rows / row_width - l.k) (drop (row_width * l.k) l.rows))) × (l.next ≤ l.at + 6 * (row_width * l.k)) × (l.k ≤ length l.rows / row_width)
-
-abbrev pub decreases-loop-k : goal.decreases-loop-k
-decreases-loop-k l = length l.rows / row_width - l.k
+invariant-loop-k l = (Left l.initial.out l.out l.at l.next (rows_text (length l.rows / row_width) l.rows) (rows_text (length l.rows / row_width - l.k) (drop (row_width * l.k) l.rows))) × (l.next ≤ l.at + 6 * (row_width * l.k))

@@ -1,21 +1,15 @@
 -- `machine::address_weight` meets its contract: a cell has an address, and any other place has none. Assumes nothing.
-use Rattle.std.proofs.Common.{sym, ap, ◌∙◌, arith}
+use Rattle.std.proofs.Common.{sym, ap, ◌∙◌}
 use lib.Count.{ones}
 use Rattle.model.specs.Step.{weight}
 use Rattle.machine.proofs.NamedPlaces.{cell_range, no_address, in_cell}
 use Rattle.machine.proofs.address_weight.Goals as goal
-
-pub overflow_sub-at : goal.overflow_sub-at
-overflow_sub-at c = omega (arith, (cell_range c.args.at (sym c.is_cell.ensures ∙ c.if-is_cell.true)).0)
-
-pub overflow_cast-at : goal.overflow_cast-at
-overflow_cast-at c = let r = cell_range c.args.at (sym c.is_cell.ensures ∙ c.if-is_cell.true) in omega (arith, r.0, r.1)
 
 pub returns-then-is_cell : goal.returns-then-is_cell
 returns-then-is_cell c =
     let r = cell_range c.args.at (sym c.is_cell.ensures ∙ c.if-is_cell.true) in
     c.weight.ensures ∙ ap weight (sym (in_cell c.args.at r.0 r.1))
 
-pub returns : goal.returns
+pub returns-else-is_cell : goal.returns-else-is_cell
 unfolding ones
-returns c = rw (no_address c.args.at (sym c.is_cell.ensures ∙ c.if-is_cell.false))
+returns-else-is_cell c = rw (no_address c.args.at (sym c.is_cell.ensures ∙ c.if-is_cell.false))

@@ -19,21 +19,21 @@ returns-then-budget-run c =
     let l = c.loop-run in
     sym (spends _ _ _ (machine l.run l.state l.trace) c.loop-run-test.true (omega arith)) ∙ l.invariant.4
 
-pub step-run-requires : goal.step-run-requires
-step-run-requires c = (c.all_masks-masks.ensures, c.all_weights-weights.ensures, omega arith, omega arith, c.loop-run.invariant.1, omega arith)
+pub step-requires : goal.step-requires
+step-requires c = (c.all_masks-masks.ensures, c.all_weights-weights.ensures, omega arith, omega arith, c.loop-run.invariant.1, omega arith)
 
 pub loop-run-smaller : goal.loop-run-smaller
 loop-run-smaller c =
     let l = c.loop-run in
-    omega (arith, tally c.args.program.now (machine l.run l.state l.trace) _ c.step-run.ensures.stepped)
+    omega (arith, tally c.args.program.now (machine l.run l.state l.trace) _ c.step.ensures.stepped)
 
 pub loop-run-preserved : goal.loop-run-preserved
 loop-run-preserved c =
     let l = c.loop-run in
-    let f = c.step-run in
+    let f = c.step in
     let p = c.args.program.now in (
       omega (arith, tally p (machine l.run l.state l.trace) _ f.ensures.stepped),
-      f.ensures.bus_within,
+      f.ensures.bus_and_place.0,
       f.auto.state ∙ l.invariant.2,
       f.auto.trace ∙ l.invariant.3,
       goes_on p _ _ (machine l.run l.state l.trace) _ _ c.loop-run-test.true c.if-budget-run.false f.ensures.stepped l.invariant.4,

@@ -1,13 +1,13 @@
 -- `machine::target_line` meets its contract. Assumes nothing.
-use Rattle.std.proofs.Common.{eq-eqb, ne_eqb}
+use Rattle.std.proofs.Common.{◌≡◌, ℕ, zero, suc, ◌-◌, refl, ◌∙◌, arith, ne_eqb}
 use Rattle.model.specs.Stored.{target_of}
 use Rattle.model.specs.Step.{target_line}
 use Rattle.machine.proofs.target_line.Goals as goal
 
-pub returns-then-code-eq0 : goal.returns-then-code-eq0
+named : (n : ℕ) → n - 1 ≡ target_line (target_of n)
 unfolding target_line target_of
-returns-then-code-eq0 c = rw (eq-eqb _ _ c.if-code-eq0.true)
+named zero = refl
+named (suc n) = rw (ne_eqb (suc n) 0 (λ e. omega (arith, e)))
 
-pub returns-else-code-eq0 : goal.returns-else-code-eq0
-unfolding target_line target_of
-returns-else-code-eq0 c = rw (ne_eqb _ _ c.if-code-eq0.false)
+pub returns : goal.returns
+returns c = c.saturating_sub.ensures ∙ named c.args.code

@@ -1,5 +1,5 @@
 -- `machine::write_row` meets its contract. The loop's invariant: the first i numbers of the row stand in the store, the rest of
--- it is as it was. The measure is what is left of the row. Assumes nothing.
+-- it is as it was. Assumes nothing.
 use Rattle.std.proofs.Common.{◌≡◌, ℕ, ◌+◌, ◌*◌, ◌<◌, ◌≤◌, List, ◌++◌, length, get_or, take, drop, set, ap, ◌∙◌, add-one, arith, take_all, rules}
 use lib.Seq.{paste, paste-zero, paste-suc, length-paste}
 use Rattle.model.specs.Limits.{row_width}
@@ -18,28 +18,28 @@ module _ (t t' : List ℕ) (k : ℕ) (r : List ℕ) (i : ℕ) (e : t' ≡ paste 
       e ∙ rw (z, take_all row_width r (omega arith))
 
 pub loop-i-init : goal.loop-i-init
-loop-i-init c = (search rules, search rules, paste-zero c.args.trace.now (row_width * c.args.n) c.args.row)
+loop-i-init c = (search rules, paste-zero c.args.trace.now (row_width * c.args.n) c.args.row)
 
 pub bounds-trace-k : goal.bounds-trace-k
 bounds-trace-k c =
     let x = c.args in
     let l = c.loop-i in
-    omega (arith, same_size x.trace.now l.trace (row_width * x.n) x.row l.i l.invariant.2 l.invariant.1 c.requires l.invariant.0)
+    omega (arith, same_size x.trace.now l.trace (row_width * x.n) x.row l.i l.invariant.1 l.invariant.0 c.requires (omega arith))
 
 pub loop-i-preserved : goal.loop-i-preserved
 loop-i-preserved c =
     let x = c.args in
     let l = c.loop-i in
-    (search rules, l.invariant.1, one_number x.trace.now l.trace (row_width * x.n) x.row l.i l.invariant.2 l.invariant.1 c.requires c.loop-i-test.true)
+    (l.invariant.0, one_number x.trace.now l.trace (row_width * x.n) x.row l.i l.invariant.1 l.invariant.0 c.requires c.loop-i-test.true)
 
 pub shape_of-trace : goal.shape_of-trace
 shape_of-trace c =
     let x = c.args in
     let l = c.loop-i in
-    same_size x.trace.now l.trace (row_width * x.n) x.row l.i l.invariant.2 l.invariant.1 c.requires l.invariant.0
+    same_size x.trace.now l.trace (row_width * x.n) x.row l.i l.invariant.1 l.invariant.0 c.requires (omega arith)
 
 pub returns : goal.returns
 returns c =
     let x = c.args in
     let l = c.loop-i in
-    whole_row x.trace.now l.trace (row_width * x.n) x.row l.i l.invariant.2 l.invariant.1 l.invariant.0 c.loop-i-test.false
+    whole_row x.trace.now l.trace (row_width * x.n) x.row l.i l.invariant.1 l.invariant.0 (omega arith) (omega arith)

@@ -1,16 +1,17 @@
--- `marks::is_no_bit` meets its contract. Form by form, by the tests that decode the number. Assumes nothing.
+-- `marks::is_no_bit` meets its contract. Form by form, by the range of the number. Assumes nothing.
+use native.Mathlib.Omega.{arith}
 use Rattle.model.specs.Marks.{is_no_bit}
 use Rattle.model.proofs.Forms.{empty, literal}
 use Rattle.marks.proofs.NumberTests.{high_bit}
 use Rattle.marks.proofs.is_no_bit.Goals as goal
 
-pub returns-then-code-lt-LITERALS : goal.returns-then-code-lt-LITERALS
+pub returns-in-1-to-256 : goal.returns-in-1-to-256
 unfolding is_no_bit
-returns-then-code-lt-LITERALS c = rw (empty _ c.if-code-lt-LITERALS.true)
+returns-in-1-to-256 c = rw (literal c.args.code (omega arith) (omega arith))
 
-pub returns-then-code-lt-REGISTERS : goal.returns-then-code-lt-REGISTERS
+pub returns-in_default : goal.returns-in_default
 unfolding is_no_bit
-returns-then-code-lt-REGISTERS c = rw (literal _ c.if-code-lt-LITERALS.false c.if-code-lt-REGISTERS.true)
+returns-in_default c = rw (empty c.args.code (omega arith))
 
-pub returns : goal.returns
-returns c = rw (high_bit _ c.if-code-lt-REGISTERS.false)
+pub returns-in_default-2 : goal.returns-in_default-2
+returns-in_default-2 c = rw (high_bit c.args.code (omega arith))

@@ -1,28 +1,29 @@
--- `marks::is_reserved` meets its contract. Form by form, by the tests that decode the number. Assumes nothing.
+-- `marks::is_reserved` meets its contract. Form by form, by the range of the number. Assumes nothing.
+use native.Mathlib.Omega.{arith}
 use Rattle.model.specs.Marks.{is_reserved}
 use Rattle.model.proofs.Forms.{register, cell, public_cell, sensitive_cell, table_cell}
 use Rattle.marks.proofs.NumberTests.{low_free}
 use Rattle.marks.proofs.is_reserved.Goals as goal
 
-pub returns-then-code-lt-REGISTERS : goal.returns-then-code-lt-REGISTERS
-returns-then-code-lt-REGISTERS c = rw (low_free _ c.if-code-lt-REGISTERS.true)
+pub returns-in_default : goal.returns-in_default
+returns-in_default c = rw (low_free c.args.code (omega arith))
 
-pub returns-then-code-lt-CELLS : goal.returns-then-code-lt-CELLS
+pub returns-in-257-to-288 : goal.returns-in-257-to-288
 unfolding is_reserved
-returns-then-code-lt-CELLS c = rw (register _ c.if-code-lt-REGISTERS.false c.if-code-lt-CELLS.true)
+returns-in-257-to-288 c = rw (register c.args.code (omega arith) (omega arith))
 
-pub returns-then-code-lt-PUBLICS : goal.returns-then-code-lt-PUBLICS
+pub returns-in-289-to-800 : goal.returns-in-289-to-800
 unfolding is_reserved
-returns-then-code-lt-PUBLICS c = rw (cell _ c.if-code-lt-CELLS.false c.if-code-lt-PUBLICS.true)
+returns-in-289-to-800 c = rw (cell c.args.code (omega arith) (omega arith))
 
-pub returns-then-code-lt-SENSITIVES : goal.returns-then-code-lt-SENSITIVES
+pub returns-in-801-to-4896 : goal.returns-in-801-to-4896
 unfolding is_reserved
-returns-then-code-lt-SENSITIVES c = rw (public_cell _ c.if-code-lt-PUBLICS.false c.if-code-lt-SENSITIVES.true)
+returns-in-801-to-4896 c = rw (public_cell c.args.code (omega arith) (omega arith))
 
-pub returns-then-code-lt-TABLES : goal.returns-then-code-lt-TABLES
+pub returns-in-4897-to-8992 : goal.returns-in-4897-to-8992
 unfolding is_reserved
-returns-then-code-lt-TABLES c = rw (sensitive_cell _ c.if-code-lt-SENSITIVES.false c.if-code-lt-TABLES.true)
+returns-in-4897-to-8992 c = rw (sensitive_cell c.args.code (omega arith) (omega arith))
 
-pub returns : goal.returns
+pub returns-in-8993-to-65535 : goal.returns-in-8993-to-65535
 unfolding is_reserved
-returns c = rw (table_cell _ c.if-code-lt-TABLES.false)
+returns-in-8993-to-65535 c = rw (table_cell c.args.code (omega arith))

@@ -1,15 +1,16 @@
 -- `marks::is_usual` meets its contract. Range by range. Assumes nothing.
+use native.Mathlib.Omega.{arith}
 use Rattle.marks.proofs.UsualOperands.{low-usual, cell_usual, indirect-usual, table_usual}
 use Rattle.marks.proofs.is_usual.Goals as goal
 
-pub returns-then-code-lt-CELLS : goal.returns-then-code-lt-CELLS
-returns-then-code-lt-CELLS c = low-usual _ c.if-code-lt-CELLS.true
+pub returns-in-0-to-288 : goal.returns-in-0-to-288
+returns-in-0-to-288 c = low-usual c.args.code (omega arith)
 
-pub returns-then-code-lt-PUBLICS : goal.returns-then-code-lt-PUBLICS
-returns-then-code-lt-PUBLICS c = cell_usual _ c.if-code-lt-CELLS.false c.if-code-lt-PUBLICS.true
+pub returns-in-289-to-800 : goal.returns-in-289-to-800
+returns-in-289-to-800 c = cell_usual c.args.code (omega arith) (omega arith)
 
-pub returns-then-code-lt-TABLES : goal.returns-then-code-lt-TABLES
-returns-then-code-lt-TABLES c = indirect-usual _ c.if-code-lt-PUBLICS.false c.if-code-lt-TABLES.true
+pub returns-in-801-to-8992 : goal.returns-in-801-to-8992
+returns-in-801-to-8992 c = indirect-usual c.args.code (omega arith) (omega arith)
 
-pub returns : goal.returns
-returns c = table_usual _ c.if-code-lt-TABLES.false
+pub returns-in-8993-to-65535 : goal.returns-in-8993-to-65535
+returns-in-8993-to-65535 c = table_usual c.args.code (omega arith)

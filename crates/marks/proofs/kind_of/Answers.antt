@@ -1,28 +1,29 @@
--- `marks::kind_of` meets its contract. Form by form, by the tests that decode the number. Assumes nothing.
+-- `marks::kind_of` meets its contract. Form by form, by the range of the number. Assumes nothing.
+use native.Mathlib.Omega.{arith}
 use Rattle.model.specs.Places.{kind_of}
 use Rattle.model.proofs.Forms.{register, cell, public_cell, sensitive_cell, table_cell}
 use Rattle.marks.proofs.NumberTests.{low-kind}
 use Rattle.marks.proofs.kind_of.Goals as goal
 
-pub returns-then-code-lt-REGISTERS : goal.returns-then-code-lt-REGISTERS
-returns-then-code-lt-REGISTERS c = rw (low-kind _ c.if-code-lt-REGISTERS.true)
-
-pub returns-then-code-lt-CELLS : goal.returns-then-code-lt-CELLS
+pub returns-in-257-to-288 : goal.returns-in-257-to-288
 unfolding kind_of
-returns-then-code-lt-CELLS c = rw (register _ c.if-code-lt-REGISTERS.false c.if-code-lt-CELLS.true) c.kind_at.ensures
+returns-in-257-to-288 c = rw (register c.args.code (omega arith) (omega arith)) c.kind_at.ensures
 
-pub returns-then-code-lt-PUBLICS : goal.returns-then-code-lt-PUBLICS
+pub returns-in-289-to-800 : goal.returns-in-289-to-800
 unfolding kind_of
-returns-then-code-lt-PUBLICS c = rw (cell _ c.if-code-lt-CELLS.false c.if-code-lt-PUBLICS.true) c.kind_at-then-code-lt-PUBLICS.ensures
+returns-in-289-to-800 c = rw (cell c.args.code (omega arith) (omega arith)) c.kind_at-in-289-to-800.ensures
 
-pub returns-then-code-lt-SENSITIVES : goal.returns-then-code-lt-SENSITIVES
+pub returns-in-801-to-4896 : goal.returns-in-801-to-4896
 unfolding kind_of
-returns-then-code-lt-SENSITIVES c = rw (public_cell _ c.if-code-lt-PUBLICS.false c.if-code-lt-SENSITIVES.true)
+returns-in-801-to-4896 c = rw (public_cell c.args.code (omega arith) (omega arith))
 
-pub returns-then-code-lt-TABLES : goal.returns-then-code-lt-TABLES
+pub returns-in-4897-to-8992 : goal.returns-in-4897-to-8992
 unfolding kind_of
-returns-then-code-lt-TABLES c = rw (sensitive_cell _ c.if-code-lt-SENSITIVES.false c.if-code-lt-TABLES.true)
+returns-in-4897-to-8992 c = rw (sensitive_cell c.args.code (omega arith) (omega arith))
 
-pub returns : goal.returns
+pub returns-in_default : goal.returns-in_default
+returns-in_default c = rw (low-kind c.args.code (omega arith))
+
+pub returns-in_default-2 : goal.returns-in_default-2
 unfolding kind_of
-returns c = rw (table_cell _ c.if-code-lt-TABLES.false)
+returns-in_default-2 c = rw (table_cell c.args.code (omega arith))

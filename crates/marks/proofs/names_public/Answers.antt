@@ -1,19 +1,16 @@
 -- `marks::names_public` meets its contract. Range by range. Assumes nothing.
 use native.Mathlib.Omega.{arith}
-use Rattle.marks.proofs.NumberTests.{high_public, indirect_public, cell_public, low_public, register_public}
+use Rattle.marks.proofs.NumberTests.{high_public, indirect_public, cell_public, below_cells}
 use Rattle.marks.proofs.names_public.Goals as goal
 
-pub returns-then-code-ge-SENSITIVES : goal.returns-then-code-ge-SENSITIVES
-returns-then-code-ge-SENSITIVES c = high_public _ c.if-code-ge-SENSITIVES.true
+pub returns-in_default : goal.returns-in_default
+returns-in_default c = below_cells c.args.code (omega arith)
 
-pub returns-then-code-ge-PUBLICS : goal.returns-then-code-ge-PUBLICS
-returns-then-code-ge-PUBLICS c = indirect_public _ c.if-code-ge-PUBLICS.true (omega (arith, c.if-code-ge-SENSITIVES.false))
+pub returns-in-289-to-800 : goal.returns-in-289-to-800
+returns-in-289-to-800 c = cell_public c.args.code (omega arith) (omega arith)
 
-pub returns-then-code-ge-CELLS : goal.returns-then-code-ge-CELLS
-returns-then-code-ge-CELLS c = cell_public _ c.if-code-ge-CELLS.true (omega (arith, c.if-code-ge-PUBLICS.false))
+pub returns-in-801-to-4896 : goal.returns-in-801-to-4896
+returns-in-801-to-4896 c = indirect_public c.args.code (omega arith) (omega arith)
 
-pub returns-then-code : goal.returns-then-code
-returns-then-code c = low_public _ c.if-code.true
-
-pub returns : goal.returns
-returns c = register_public _ (omega (arith, c.if-code.false)) (omega (arith, c.if-code-ge-CELLS.false))
+pub returns-in-4897-to-65535 : goal.returns-in-4897-to-65535
+returns-in-4897-to-65535 c = high_public c.args.code (omega arith)

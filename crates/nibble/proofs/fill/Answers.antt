@@ -9,10 +9,7 @@ use Rattle.nibble.proofs.MapLaws.{above_next, above_here, above_end, none_filled
 use Rattle.nibble.proofs.fill.Goals as goal
 
 pub loop-a-init : goal.loop-a-init
-loop-a-init c = (omega arith, c.requires.zeros ∙ none_filled c.args.map.now, omega arith)
-
-pub returns-then-value-gt15 : goal.returns-then-value-gt15
-returns-then-value-gt15 c = record { index = above_here c.args.map.now c.loop-a.a (omega arith) c.if-value-gt15.true ∙ c.loop-a.invariant.2; table = λ h. absurd (omega arith) }
+loop-a-init c = (c.requires.zeros ∙ none_filled c.args.map.now, omega arith)
 
 pub bounds-table-at : goal.bounds-table-at
 bounds-table-at c = let h : c.encode-at.result < 64 = rw c.encode-at.ensures (six-bits c.loop-a.a) in search rules
@@ -21,10 +18,13 @@ pub loop-a-preserved : goal.loop-a-preserved
 loop-a-preserved c =
     let m = c.args.map.now in
     let l = c.loop-a in
-    (omega arith, fill_turn m l.table l.a _ _ l.invariant.1 (omega arith) c.encode-at.ensures c.encode.ensures, above_next m l.a (omega arith) c.if-value-gt15.false ∙ l.invariant.2)
+    (fill_turn m l.table l.a _ _ l.invariant.0 (omega arith) c.encode-at.ensures c.encode.ensures, above_next m l.a (omega arith) c.if-value-gt15.false ∙ l.invariant.1)
 
-pub returns : goal.returns
-returns c =
+pub returns-then-value-gt15-clause-err : goal.returns-then-value-gt15-clause-err
+returns-then-value-gt15-clause-err c = (above_here c.args.map.now c.loop-a.a (omega arith) c.if-value-gt15.true ∙ c.loop-a.invariant.1, omega arith)
+
+pub returns-clause-ok : goal.returns-clause-ok
+returns-clause-ok c =
     let m = c.args.map.now in
     let l = c.loop-a in
-    record { index = above_end m l.a (omega arith) ∙ l.invariant.2; table = λ h. fill_end m l.table l.a l.invariant.1 (omega arith) }
+    (omega (arith, above_end m l.a (omega arith), l.invariant.1), fill_end m l.table l.a l.invariant.0 (omega arith))

@@ -10,11 +10,11 @@ put_marked-masked-requires c = omega (arith, scale_bounds c.args.layout)
 pub put_marked-shifted-requires : goal.put_marked-shifted-requires
 put_marked-shifted-requires c = omega (arith, scale_bounds c.args.layout)
 
-pub returns-then-spaced : goal.returns-then-spaced
-returns-then-spaced c = spaced_wrote _ _ c.literal.ensures c.if-spaced.true c.put_marked-masked.ensures c.put_marked-shifted.ensures
+pub returns-then-layout : goal.returns-then-layout
+returns-then-layout c = spaced_wrote _ _ c.literal.ensures c.if-layout.true c.put_marked-masked.ensures c.put_marked-shifted.ensures
 
 pub put_marked-requires : goal.put_marked-requires
-put_marked-requires c = omega (arith, scale_near c.args.layout c.if-spaced.false)
+put_marked-requires c = omega (arith, scale_near c.args.layout c.if-layout.false)
 
 pub returns : goal.returns
-returns c = near_wrote _ _ c.literal.ensures c.if-spaced.false c.put_marked-masked.ensures c.put_marked-shifted.ensures c.put_marked.ensures
+returns c = near_wrote _ _ c.literal.ensures c.if-layout.false c.put_marked-masked.ensures c.put_marked-shifted.ensures c.put_marked.ensures

@@ -1,12 +1,6 @@
--- `sendout::main` is safe and ends: the bytes that are counted stand in the store. Assumes nothing.
-use mathlib.Core.Path.{sym}
-use lib.Seq.{length-take-le}
-use Rattle.lines.proofs.LeftLaws.{count_within}
+-- `sendout::main` is safe and ends: what is counted of the printed text stands in its room. Assumes nothing.
+use Rattle.lines.proofs.SharedLaws.{counted_within}
 use Rattle.sendout.proofs.main.Goals as goal
 
-pub slice_bounds-output-end : goal.slice_bounds-output-end
-slice_bounds-output-end c = count_within _ _ _ c.print_sent-answer.result _ c.print_sent-answer.ensures c.in-Count.is
-
-pub slice_bounds-write_all-end : goal.slice_bounds-write_all-end
-slice_bounds-write_all-end c =
-    sym (length-take-le _ _ (count_within _ _ _ c.print_sent-answer.result _ c.print_sent-answer.ensures c.in-Count.is))
+pub convert-requires-clause-fits : goal.convert-requires-clause-fits
+convert-requires-clause-fits c = λ text into answer printed n e q. counted_within _ into.now printed.now _ n e q

@@ -2,22 +2,13 @@
 -- Assumes nothing.
 use Prim.Native.Nat.{ℕ, ◌+◌, ◌-◌}
 use mathlib.Core.Path.{◌≡◌, refl, sym, ap, ◌∙◌}
-use mathlib.Core.List.{[], ◌∷◌}
 use native.Mathlib.Omega.{arith}
 use lib.ListN.{drop}
-use Rattle.model.specs.Answers.{refused, outcome}
 use Rattle.model.specs.Text.{newline}
-use Rattle.model.specs.Stored.{wrong}
-use Rattle.text.specs.declared.Stored.{Stored}
-use Rattle.text.specs.declared.Parsed.{Parsed}
-use Rattle.text.specs.declared.Parsed.TheVariants.{Line, Refused}
-use Rattle.text.specs.Lines.{meaning, numbers_of, refusal_of}
+use Rattle.text.specs.Lines.{meaning, numbers_of}
 use Rattle.text.proofs.PartLaws.{after_first}
-use Rattle.text.proofs.ReadLaws.{left-first, left_same, left_done, left-full, left_room, left_stop, left-next}
+use Rattle.text.proofs.ReadLaws.{left_same, left_done, left-full, left_room, left_stop, left-next}
 use Rattle.text.proofs.read.Goals as goal
-
-pub loop-rest-init : goal.loop-rest-init
-loop-rest-init c = left-first c.args.text.now c.args.store.now
 
 pub returns-then-n-ge-MAX_LINES : goal.returns-then-n-ge-MAX_LINES
 returns-then-n-ge-MAX_LINES c = left-full c.args.text.now c.args.store.now c.loop-rest.store c.loop-rest.rest.now _ c.loop-rest.n c.loop-rest.invariant c.loop-rest-test.true (omega (arith, c.if-n-ge-MAX_LINES.true))
@@ -25,41 +16,23 @@ returns-then-n-ge-MAX_LINES c = left-full c.args.text.now c.args.store.now c.loo
 pub returns-then-room-n : goal.returns-then-room-n
 returns-then-room-n c = left_room c.args.text.now c.args.store.now c.loop-rest.store c.loop-rest.rest.now _ c.loop-rest.n c.loop-rest.invariant c.loop-rest-test.true (omega (arith, c.if-n-ge-MAX_LINES.false)) c.if-room-n.true
 
-pub take-bytes-requires : goal.take-bytes-requires
-take-bytes-requires c = omega (arith, c.loop-rest.invariant.long, c.loop-rest.invariant.room_is, c.if-room-n.false)
-
 pub loop-rest-preserved-then-bytes-gt0 : goal.loop-rest-preserved-then-bytes-gt0
 loop-rest-preserved-then-bytes-gt0 c =
     let x = c.take-bytes.ensures.1 c.if-bytes-gt0.true in
     let e : c.take-bytes.result - 1 + 1 ≡ c.take-bytes.result = omega (arith, c.if-bytes-gt0.true) in
     left-next c.args.text.now c.args.store.now c.loop-rest.store c.loop-rest.rest.now _ c.loop-rest.n c.loop-rest.invariant c.loop-rest-test.true (omega (arith, c.if-n-ge-MAX_LINES.false)) c.if-room-n.false
-    x.line _ _ x.six x.read x.stored (c.beyond-next.ensures ∙ ap (λ (k : ℕ). drop k c.loop-rest.rest.now) e ∙ x.rest) c.take-bytes.auto.store
-
-pub front-got-requires : goal.front-got-requires
-front-got-requires c = c.find-end.ensures.0
-
--- what is no line is refused with its number
-turned_down : (a : Parsed) → ((l : Stored) → a ≡ Line l → ⊥) → meaning a ≡ wrong (refusal_of a)
-unfolding refusal_of
-turned_down (Line l) h = absurd (h l refl)
-turned_down (Refused k) h = refl
+    x.line _ _ x.six x.read x.stored (c.beyond-rest.ensures ∙ ap (λ (k : ℕ). drop k c.loop-rest.rest.now) e ∙ x.rest) c.take-bytes.auto.store
 
 pub returns-in_default : goal.returns-in_default
-unfolding refusal_of
 returns-in_default c =
     let l = left_same c.args.text.now c.args.store.now c.loop-rest.store c.loop-rest.rest.now _ c.loop-rest.n c.loop-rest.invariant _ (c.take-bytes.ensures.0 (omega (arith, c.if-bytes-gt0.false))) in
-    let k = turned_down c.front-got.result c.in_default.not-Line in
-    ap (λ (i : ℕ). outcome (refused i c.loop-rest.n) (c.take-bytes.new.store ∷ [])) c.refusal.ensures
-    ∙ left_stop c.args.text.now c.args.store.now _ c.loop-rest.rest.now _ c.loop-rest.n l c.loop-rest-test.true (omega (arith, c.if-n-ge-MAX_LINES.false)) c.if-room-n.false _ (sym c.front-got.ensures ∙ k)
-
-pub keep-requires : goal.keep-requires
-keep-requires c = omega (arith, c.loop-rest.invariant.long, c.loop-rest.invariant.room_is, c.if-room-n.false, c.take-bytes.auto.store)
+    left_stop c.args.text.now c.args.store.now _ c.loop-rest.rest.now _ c.loop-rest.n l c.loop-rest-test.true (omega (arith, c.if-n-ge-MAX_LINES.false)) c.if-room-n.false _ (sym c.front-got.ensures ∙ ap meaning c.unwrap_err.ensures)
 
 pub loop-rest-preserved : goal.loop-rest-preserved
 loop-rest-preserved c =
     let l = left_same c.args.text.now c.args.store.now c.loop-rest.store c.loop-rest.rest.now _ c.loop-rest.n c.loop-rest.invariant _ (c.take-bytes.ensures.0 (omega (arith, c.if-bytes-gt0.false))) in
     left-next c.args.text.now c.args.store.now _ c.loop-rest.rest.now _ c.loop-rest.n l c.loop-rest-test.true (omega (arith, c.if-n-ge-MAX_LINES.false)) c.if-room-n.false
-    (numbers_of c.in-Line.l) _ _ refl (sym c.front-got.ensures ∙ ap meaning c.in-Line.is) c.keep.ensures (c.beyond-next-else-bytes-gt0.ensures ∙ after_first newline c.loop-rest.rest.now c.find-end.result c.find-end.ensures.0) c.keep.auto.store
+    (numbers_of c.in-Ok.l) _ _ refl (sym c.front-got.ensures ∙ ap meaning c.in-Ok.is) c.keep.ensures (c.beyond-rest-else-bytes-gt0.ensures ∙ after_first newline c.loop-rest.rest.now c.find-end.result c.find-end.ensures.0) c.keep.auto.store
 
 pub returns : goal.returns
 returns c = left_done c.args.text.now c.args.store.now c.loop-rest.store c.loop-rest.rest.now _ c.loop-rest.n c.loop-rest.invariant (omega (arith, c.loop-rest-test.false))

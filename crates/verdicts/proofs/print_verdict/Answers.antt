@@ -15,27 +15,27 @@ returns-then-input-gt-INPUT_SIZE c =
 pub returns-in_default : goal.returns-in_default
 returns-in_default c =
     let x = c.args in
-    let s = c.lines_room-store in
+    let s = c.room-store in
     let r = c.read_lines-got in
-    c.write_refusal-in_default.ensures ∙ ap (λ (t : List ℕ). fitted t x.out.now) (unread_prints x.input.now s.result r.new.store r.result c.if-input-gt-INPUT_SIZE.false s.ensures r.ensures c.in_default.not-Count)
+    c.write_refusal-in_default.ensures ∙ ap (λ (t : List ℕ). fitted t x.out.now) (unread_prints x.input.now s.result r.new.store r.result c.if-input-gt-INPUT_SIZE.false s.ensures.len r.ensures _ c.in_default.is)
 
 pub slice_bounds-store-end : goal.slice_bounds-store-end
 slice_bounds-store-end c =
     let x = c.args in
-    let s = c.lines_room-store in
+    let s = c.room-store in
     let r = c.read_lines-got in
-    lines_fit x.input.now s.result r.new.store r.result c.if-input-gt-INPUT_SIZE.false s.ensures r.ensures c.in-Count.n c.in-Count.is
+    lines_fit x.input.now s.result r.new.store r.result c.if-input-gt-INPUT_SIZE.false s.ensures.len r.ensures c.in-Ok.n c.in-Ok.is
 
 pub slice_bounds-write_judged-end : goal.slice_bounds-write_judged-end
 slice_bounds-write_judged-end c =
     let x = c.args in
-    let s = c.lines_room-store in
+    let s = c.room-store in
     let r = c.read_lines-got in
-    sym (length-take-le _ _ (lines_fit x.input.now s.result r.new.store r.result c.if-input-gt-INPUT_SIZE.false s.ensures r.ensures c.in-Count.n c.in-Count.is))
+    sym (length-take-le _ _ (lines_fit x.input.now s.result r.new.store r.result c.if-input-gt-INPUT_SIZE.false s.ensures.len r.ensures c.in-Ok.n c.in-Ok.is))
 
 pub returns : goal.returns
 returns c =
     let x = c.args in
-    let s = c.lines_room-store in
+    let s = c.room-store in
     let r = c.read_lines-got in
-    c.write_judged.ensures ∙ ap (λ (t : List ℕ). fitted t x.out.now) (read_prints x.input.now s.result r.new.store r.result c.if-input-gt-INPUT_SIZE.false s.ensures r.ensures c.in-Count.n c.in-Count.is)
+    c.write_judged.ensures ∙ ap (λ (t : List ℕ). fitted t x.out.now) (read_prints x.input.now s.result r.new.store r.result c.if-input-gt-INPUT_SIZE.false s.ensures.len r.ensures c.in-Ok.n c.in-Ok.is)

@@ -7,15 +7,22 @@ use Rattle.model.specs.Text.{fitted}
 use Rattle.sets.specs.Walk.{verdict_report}
 use Rattle.verdicts.specs.Verdicts.{verdict_budget, verdict_text}
 use Rattle.verdicts.proofs.VerdictSets.{before_all}
+use Rattle.verdicts.proofs.VerdictTexts.{refused_line}
 use Rattle.verdicts.proofs.write_judged.Goals as goal
 
 pub write_sets-requires : goal.write_sets-requires
 write_sets-requires c = sym before_all
 
-pub returns : goal.returns
-returns c =
+pub returns-in-Ok : goal.returns-in-Ok
+returns-in-Ok c =
     let x = c.args in
-    let j = c.judge-verdict in
     c.write_verdict.ensures
     ∙ ap (λ (r : Report). fitted (verdict_text r) x.out.now)
-    (j.ensures ∙ ap (λ (s : List ℕ). verdict_report x.program.now s verdict_budget) c.write_sets.ensures)
+    (c.in-Ok.ensures ∙ ap (λ (s : List ℕ). verdict_report x.program.now s verdict_budget) c.write_sets.ensures)
+
+pub returns-in-Err : goal.returns-in-Err
+returns-in-Err c =
+    let x = c.args in
+    c.write_refusal.ensures ∙ ap (λ (t : List ℕ). fitted t x.out.now) (refused_line c.in-Err.refusal)
+    ∙ ap (λ (r : Report). fitted (verdict_text r) x.out.now)
+    (c.in-Err.ensures ∙ ap (λ (s : List ℕ). verdict_report x.program.now s verdict_budget) c.write_sets.ensures)

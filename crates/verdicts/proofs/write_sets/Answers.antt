@@ -9,26 +9,26 @@ use Rattle.verdicts.proofs.VerdictSets.{before_long, before_none, zero_at}
 use Rattle.verdicts.proofs.write_sets.Goals as goal
 
 pub loop-i-init : goal.loop-i-init
-loop-i-init c = (omega arith, c.requires)
+loop-i-init c = c.requires
 
 pub put_values-requires : goal.put_values-requires
 put_values-requires c =
     let t = c.loop-i-test in
     let m = c.loop-i in
     let v = c.to_image in
-    (t.true, m.invariant.1, zero_at v.new.image (report v.result) v.ensures m.i t.true)
+    (t.true, m.invariant, zero_at v.new.image (report v.result) v.ensures m.i t.true)
 
 pub loop-i-preserved : goal.loop-i-preserved
 loop-i-preserved c =
     let m = c.loop-i in
-    (omega (arith, c.loop-i-test.true), c.put_values.ensures ∙ ap sets_before (sym (add-one m.i)))
+    c.put_values.ensures ∙ ap sets_before (sym (add-one m.i))
 
 pub shape_of-sets : goal.shape_of-sets
 shape_of-sets c =
     let m = c.loop-i in
-    omega (arith, ap length m.invariant.1, before_long m.i m.invariant.0, ap length c.requires, before_long 0 (omega arith))
+    omega (arith, ap length m.invariant, before_long m.i (omega arith), ap length c.requires, before_long 0 (omega arith))
 
 pub returns : goal.returns
 returns c =
     let m = c.loop-i in
-    m.invariant.1 ∙ before_none m.i m.invariant.0 c.loop-i-test.false
+    m.invariant ∙ before_none m.i (omega arith) c.loop-i-test.false

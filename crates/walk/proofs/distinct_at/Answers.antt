@@ -32,42 +32,41 @@ module _ (f : ℕ → ℕ) (b : List ℕ) (i : ℕ) (l : length b ≡ set_width 
   at_most : length vs ≤ max_values
   at_most = below i state_size (λ h. omega (arith, meant-length, values_le b l i h)) (λ h. omega (arith, meant-length, ap length (values-past b i h)))
 
-  one_more : {n : ℕ} (u u' : List ℕ) (j : ℕ) → n ≡ length (values (lists_of b) i) → Noted vs n u j → j < n → length u' ≡ suc set_width → {x y : ℕ} → x ≡ get_or (values (lists_of b) i) j 0 → y ≡ f x
-      → (listed u' ≡ insert (listed u) y) × (get_or u' 0 0 ≤ set_width) → Noted vs n u' (j + 1)
+  one_more : {n : ℕ} (u u' : List ℕ) (j : ℕ) → n ≡ length (values (lists_of b) i) → Noted vs u j → j < n → length u' ≡ suc set_width → {x y : ℕ} → x ≡ get_or (values (lists_of b) i) j 0 → y ≡ f x
+      → (listed u' ≡ insert (listed u) y) × (get_or u' 0 0 ≤ set_width) → Noted vs u' (j + 1)
   one_more u u' j en I h l' {x} {y} ex ey e =
       let at : y ≡ get_or vs j 0 = ey ∙ ap f ex ∙ sym (map_at f (values (lists_of b) i) j (omega arith)) in
       record {
-        most = omega arith;
         long = l';
         count = e.1;
         few_noted = omega (arith, ap length e.0, (insert_grows (listed u) y).1, I.few_noted);
         same = ap (λ (xs : List ℕ). insert_all xs (drop (j + 1) vs)) (e.0 ∙ ap (insert (listed u)) at) ∙ sym (put_next vs j (listed u) (omega (arith, meant-length))) ∙ I.same;
       }
 
-  whole : {n : ℕ} (u : List ℕ) (j : ℕ) → n ≡ length (values (lists_of b) i) → Noted vs n u j → n ≤ j → (listed u ≡ distinct vs) × (get_or u 0 0 ≤ max_values)
-  whole u j en I h = (
+  whole : {n : ℕ} (u : List ℕ) (j : ℕ) → n ≡ length (values (lists_of b) i) → Noted vs u j → j ≤ n → n ≤ j → (listed u ≡ distinct vs) × (get_or u 0 0 ≤ max_values)
+  whole u j en I g h = (
     sym (put-over vs j (listed u) (omega (arith, meant-length))) ∙ I.same,
-    omega (arith, listed-few u set_width I.long I.count, I.few_noted, I.most, meant-length, at_most),
+    omega (arith, listed-few u set_width I.long I.count, I.few_noted, meant-length, at_most),
   )
 
-pub size_of-n-requires : goal.size_of-n-requires
-size_of-n-requires c = c.requires
+pub size_of-j-end-requires : goal.size_of-j-end-requires
+size_of-j-end-requires c = c.requires
 
 pub loop-j-init : goal.loop-j-init
-loop-j-init c = record { most = omega arith; long = search rules; count = omega arith; few_noted = omega arith; same = refl }
+loop-j-init c = record { long = search rules; count = omega arith; few_noted = omega arith; same = refl }
 
 pub value_of-requires : goal.value_of-requires
-value_of-requires c = (c.requires, omega (arith, c.size_of-n.ensures))
+value_of-requires c = (c.requires, omega (arith, c.size_of-j-end.ensures))
 
 pub note-requires : goal.note-requires
 note-requires c =
     let I = c.loop-j.invariant in
     let most = at_most (meaning c.args.mark (kind c.args.i)) c.args.sets.now c.args.i c.requires in
     let same = meant-length (meaning c.args.mark (kind c.args.i)) c.args.sets.now c.args.i c.requires in
-    (I.long, omega (arith, listed-few c.loop-j.found set_width I.long I.count, I.few_noted, c.size_of-n.ensures, same, most, c.loop-j-test.true))
+    (I.long, omega (arith, listed-few c.loop-j.found set_width I.long I.count, I.few_noted, c.size_of-j-end.ensures, same, most, c.loop-j-test.true))
 
 pub loop-j-preserved : goal.loop-j-preserved
-loop-j-preserved c = one_more (meaning c.args.mark (kind c.args.i)) c.args.sets.now c.args.i c.requires _ _ _ c.size_of-n.ensures c.loop-j.invariant c.loop-j-test.true (search rules) c.value_of.ensures c.argument.ensures c.note.ensures
+loop-j-preserved c = one_more (meaning c.args.mark (kind c.args.i)) c.args.sets.now c.args.i c.requires _ _ _ c.size_of-j-end.ensures c.loop-j.invariant c.loop-j-test.true (search rules) c.value_of.ensures c.argument.ensures c.note.ensures
 
 pub returns : goal.returns
-returns c = whole (meaning c.args.mark (kind c.args.i)) c.args.sets.now c.args.i c.requires _ _ c.size_of-n.ensures c.loop-j.invariant c.loop-j-test.false
+returns c = whole (meaning c.args.mark (kind c.args.i)) c.args.sets.now c.args.i c.requires _ _ c.size_of-j-end.ensures c.loop-j.invariant c.loop-j.auto.j-end c.loop-j-test.false

@@ -1,13 +1,9 @@
 -- `walk::distinct_at` meets its contract. The loop's invariant: what the values from j on mean, put behind what was noted, is all.
 -- Assumes nothing.
-use Prim.Native.Nat.{◌-◌}
 use Rattle.model.specs.Places.{kind}
 use Rattle.model.specs.Step.{meaning}
 use Rattle.walk.proofs.Gathers.{Noted, meant}
 use Rattle.walk.proofs.distinct_at.Given as goal
 
 abbrev pub invariant-loop-j : goal.invariant-loop-j
-invariant-loop-j l = Noted (meant (meaning l.mark (kind l.i)) l.sets l.i) l.n l.found l.j
-
-abbrev pub decreases-loop-j : goal.decreases-loop-j
-decreases-loop-j l = l.n - l.j
+invariant-loop-j l = Noted (meant (meaning l.mark (kind l.i)) l.sets l.i) l.found l.j

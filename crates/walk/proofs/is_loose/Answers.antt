@@ -35,20 +35,14 @@ module _ (S : Sets) (m : Mark) (o : Operand) where
   unfolding loose
   by_place u b l h e = rw b (ap (λ (n : ℕ). ltb 1 n) (sym (listed-few u set_width l (omega arith)) ∙ ap length e))
 
-pub is_several-requires : goal.is_several-requires
-is_several-requires c = c.requires.0
-
 pub returns-then-is_several : goal.returns-then-is_several
 returns-then-is_several c =
     let S = lists_of c.args.sets.now in
-    by-base S _ (operand_of c.args.code) (ap (λ (i : ℕ). several (values S i)) (sym c.base_of.ensures) ∙ sym c.is_several.ensures ∙ c.if-is_several.true)
+    c.if-is_several.true ∙ by-base S _ (operand_of c.args.code) (ap (λ (i : ℕ). several (values S i)) (sym c.base_of.ensures) ∙ sym c.is_several.ensures ∙ c.if-is_several.true)
 
-pub distinct_at-meant-requires : goal.distinct_at-meant-requires
-distinct_at-meant-requires c = c.requires.0
-
-pub returns : goal.returns
-returns c =
+pub returns-else-is_several : goal.returns-else-is_several
+returns-else-is_several c =
     let S = lists_of c.args.sets.now in
-    let d = c.distinct_at-meant in
+    let d = c.distinct_at in
     by_place S _ (operand_of c.args.code) d.result (ap (λ (i : ℕ). several (values S i)) (sym c.base_of.ensures) ∙ sym c.is_several.ensures ∙ c.if-is_several.false)
     (search rules) d.ensures.1 (meant S _ (operand_of c.args.code) _ _ d.result c.requires.1 c.place_at.ensures d.ensures.0)

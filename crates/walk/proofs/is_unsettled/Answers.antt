@@ -30,34 +30,27 @@ module _ (S : Sets) (l : Line) where
 told : (S : Sets) (i j : ℕ) (r b : Bool) → i ≡ j → r ≡ several (values S i) → r ≡ b → several (values S j) ≡ b
 told S i j r b ei er e = rw (← ei, ← er) e
 
-pub is_several-requires : goal.is_several-requires
-is_several-requires c = c.requires.1
-
 pub returns-then-is_several : goal.returns-then-is_several
 returns-then-is_several c =
     let S = lists_of c.args.sets.now in
-    by-destination S (line_by c.args.line.now) (told S _ _ _ _ c.base_of.ensures c.is_several.ensures c.if-is_several.true)
-
-pub is_loose-requires : goal.is_loose-requires
-is_loose-requires c = (c.requires.1, c.requires.2)
+    c.if-is_several.true ∙ by-destination S (line_by c.args.line.now) (told S _ _ _ _ c.base_of.ensures c.is_several.ensures c.if-is_several.true)
 
 pub returns-then-is_loose : goal.returns-then-is_loose
 returns-then-is_loose c =
     let S = lists_of c.args.sets.now in
-    by_first S (line_by c.args.line.now) (told S _ _ _ _ c.base_of.ensures c.is_several.ensures c.if-is_several.false)
+    c.if-is_loose.true
+    ∙ by_first S (line_by c.args.line.now) (told S _ _ _ _ c.base_of.ensures c.is_several.ensures c.if-is_several.false)
     _ c.mark_of-mark.ensures (ap branches (sym c.opcode_of.ensures) ∙ sym c.is_branch.ensures ∙ c.if-is_branch.true) (sym c.is_loose.ensures ∙ c.if-is_loose.true)
 
-pub is_loose-requires-then-is_branch : goal.is_loose-requires-then-is_branch
-is_loose-requires-then-is_branch c = (c.requires.1, c.requires.2)
-
-pub returns-then-is_branch : goal.returns-then-is_branch
-returns-then-is_branch c =
+pub returns-else-is_loose : goal.returns-else-is_loose
+returns-else-is_loose c =
     let S = lists_of c.args.sets.now in
     by-second S (line_by c.args.line.now) (told S _ _ _ _ c.base_of.ensures c.is_several.ensures c.if-is_several.false)
-    _ _ c.mark_of-mark.ensures (ap branches (sym c.opcode_of.ensures) ∙ sym c.is_branch.ensures ∙ c.if-is_branch.true) (sym c.is_loose.ensures ∙ c.if-is_loose.false) c.is_loose-then-is_branch.ensures
+    _ _ c.mark_of-mark.ensures (ap branches (sym c.opcode_of.ensures) ∙ sym c.is_branch.ensures ∙ c.if-is_branch.true) (sym c.is_loose.ensures ∙ c.if-is_loose.false) c.is_loose-else-is_loose.ensures
 
-pub returns : goal.returns
-returns c =
+pub returns-else-is_branch : goal.returns-else-is_branch
+returns-else-is_branch c =
     let S = lists_of c.args.sets.now in
-    no-branch S (line_by c.args.line.now) (told S _ _ _ _ c.base_of.ensures c.is_several.ensures c.if-is_several.false)
+    c.if-is_branch.false
+    ∙ no-branch S (line_by c.args.line.now) (told S _ _ _ _ c.base_of.ensures c.is_several.ensures c.if-is_several.false)
     (ap branches (sym c.opcode_of.ensures) ∙ sym c.is_branch.ensures ∙ c.if-is_branch.false)

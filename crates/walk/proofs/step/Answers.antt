@@ -5,6 +5,7 @@ use Prim.Native.Nat.{ℕ}
 use native.Mathlib.Omega.{arith}
 use borrow.Author.Tests.{ltb-true, ltb-false}
 use lib.ListN.{length}
+use Rattle.model.specs.declared.Condition.TheVariants.{SeveralValues, TooManyValues}
 use Rattle.walk.specs.declared.Move.TheVariants.{To}
 use Rattle.model.specs.Step.{next}
 use Rattle.sets.specs.Walk.{max_values, set_width, listed, lists_of, heads, onto}
@@ -16,6 +17,7 @@ use Rattle.choices.proofs.SetBytes.{listed-few}
 use Rattle.walk.proofs.StepLaws.{settled_none, told_all, no_to, leaks_to, moves_21, moves_22, moves_leak, moves-apart, moves_on, all_told}
 use borrow.Author.Rules.{rules}
 use Rattle.walk.proofs.step.Goals as goal
+use Rattle.walk.proofs.step.Goals.{then-leak-via-then-leak, then-leak-via-else-leak+then-not-is_met}
 
 pub returns-then-is_unsettled : goal.returns-then-is_unsettled
 returns-then-is_unsettled c =
@@ -23,7 +25,7 @@ returns-then-is_unsettled c =
     let bus = c.args.bus.now in
     let l = line_by c.args.line.now in
     let k = c.args.counter in
-    record { value = moves_21 S (listed bus) l k (sym c.is_unsettled.ensures ∙ c.if-is_unsettled.true); sets_after = λ n q. absurd (no_to 21 n q); bus_after = λ n q. absurd (no_to 21 n q) }
+    record { value = moves_21 S (listed bus) l k (sym c.is_unsettled.ensures ∙ c.if-is_unsettled.true); sets_after = λ n q. absurd (no_to SeveralValues n q); bus_after = λ n q. absurd (no_to SeveralValues n q) }
 
 pub explore-leak-requires : goal.explore-leak-requires
 explore-leak-requires c =
@@ -43,7 +45,7 @@ returns-then-is_overfull c =
     let f = c.explore-leak.new.found in
     let g = gathered (listed f) c.explore-leak.result c.explore-leak.new.row in
     let h = told_all S l k g _ c.requires.2 c.explore-leak.ensures.visited.0 in
-    record { value = moves_22 S (listed bus) l k u g h (ltb-true max_values (length (listed f)) (sym c.is_overfull.ensures ∙ c.if-is_overfull.true)); sets_after = λ n q. absurd (no_to 22 n q); bus_after = λ n q. absurd (no_to 22 n q) }
+    record { value = moves_22 S (listed bus) l k u g h (ltb-true max_values (length (listed f)) (sym c.is_overfull.ensures ∙ c.if-is_overfull.true)); sets_after = λ n q. absurd (no_to TooManyValues n q); bus_after = λ n q. absurd (no_to TooManyValues n q) }
 
 pub returns-then-leak : goal.returns-then-leak
 returns-then-leak c =
@@ -55,25 +57,19 @@ returns-then-leak c =
     let f = c.explore-leak.new.found in
     let g = gathered (listed f) c.explore-leak.result c.explore-leak.new.row in
     let h = told_all S l k g _ c.requires.2 c.explore-leak.ensures.visited.0 in
-    let few = ltb-false max_values (length (listed f)) (sym c.is_overfull.ensures ∙ c.if-is_overfull.false) in
-    record { value = moves_leak S (listed bus) l k u g h c.requires.2 c.requires.3 few c.if-leak.true; sets_after = λ n q. absurd (leaks_to n q); bus_after = λ n q. absurd (leaks_to n q) }
+    let few = ltb-false max_values (length (listed f)) (sym c.is_overfull.ensures ∙ c.if-is_overfull.false) in record {
+      value = elim c.then-leak.branch [
+        | then-leak-via-then-leak w ↦ moves_leak S (listed bus) l k u g h c.requires.2 c.requires.3 few w.if-leak.true
+        | then-leak-via-else-leak+then-not-is_met w ↦
+            let met = w.is_met.ensures ∙ ap (λ (b : List ℕ). meets (lists_of b) (listed bus) l) c.explore-leak.ensures.unchanged.0 in
+            moves-apart S (listed bus) l k u g h c.requires.2 c.requires.3 few w.if-leak.false (sym met ∙ w.if-not-is_met.true)
+      ];
+      sets_after = λ n q. absurd (leaks_to n q);
+      bus_after = λ n q. absurd (leaks_to n q);
+    }
 
 pub is_met-requires : goal.is_met-requires
 is_met-requires c = (search rules, search rules, rw c.explore-leak.ensures.unchanged.0 (full_some (lists_of c.args.sets.now) c.requires.2), search rules, c.requires.3, c.requires.4)
-
-pub returns-then-not-is_met : goal.returns-then-not-is_met
-returns-then-not-is_met c =
-    let S = lists_of c.args.sets.now in
-    let bus = c.args.bus.now in
-    let l = line_by c.args.line.now in
-    let k = c.args.counter in
-    let u = sym c.is_unsettled.ensures ∙ c.if-is_unsettled.false in
-    let f = c.explore-leak.new.found in
-    let g = gathered (listed f) c.explore-leak.result c.explore-leak.new.row in
-    let h = told_all S l k g _ c.requires.2 c.explore-leak.ensures.visited.0 in
-    let few = ltb-false max_values (length (listed f)) (sym c.is_overfull.ensures ∙ c.if-is_overfull.false) in
-    let met = c.is_met.ensures ∙ ap (λ (b : List ℕ). meets (lists_of b) (listed bus) l) c.explore-leak.ensures.unchanged.0 in
-    record { value = moves-apart S (listed bus) l k u g h c.requires.2 c.requires.3 few c.if-leak.false (sym met ∙ c.if-not-is_met.true); sets_after = λ n q. absurd (leaks_to n q); bus_after = λ n q. absurd (leaks_to n q) }
 
 pub go_on-requires : goal.go_on-requires
 go_on-requires c =

@@ -25,7 +25,6 @@ module _ (b own : List ℕ) (s : State) (i : ℕ) where
       → listed f ≡ distinct (values (lists_of b) i) → get_or f 0 0 ≤ max_values → (own' : List ℕ) → length own' ≡ length own
       → lists_of own' ≡ set (lists_of own) i (listed (take set_width f)) → Took b own' (set s i (get_or f 1 0)) (i + 1)
   one_more l h I g f lf ef hf own' lo eo = record {
-    most = omega arith;
     long = lo ∙ I.long;
     long_state = length-set s i (get_or f 1 0) ∙ I.long_state;
     lists = λ m n. at-list m n (ℕ_discrete m i);
@@ -46,8 +45,8 @@ module _ (b own : List ℕ) (s : State) (i : ℕ) where
           rw (e, get_or-set_same s i (get_or f 1 0) 0 (omega (arith, I.long_state)))
           (sym (listed_at f set_width lf 0 (rw found ((sized-full b l h).some_in i g))) ∙ ap (λ (xs : List ℕ). get_or xs 0 0) found)
 
-  all : Took b own s i → state_size ≤ i → (lists_of own ≡ sets_of b) × (s ≡ heads (lists_of own))
-  all I g =
+  all : Took b own s i → i ≤ state_size → state_size ≤ i → (lists_of own ≡ sets_of b) × (s ≡ heads (lists_of own))
+  all I f g =
       let same : lists_of own ≡ sets_of b =
       ext_get_or (0 ∷ []) (lists_of own) (sets_of b) (lists_length state_size own ∙ sym (length-map (lists_of b) distinct ∙ lists_length state_size b))
       (λ m n. I.lists m (omega (arith, lists_length state_size own))) in (
@@ -65,7 +64,7 @@ as-they-are k (x ∷ xs) = ap (λ (ys : List ℕ). x ∷ ys) (as-they-are k xs)
 pub loop-i-init : goal.loop-i-init
 loop-i-init c =
     let p = c.requires in
-    record { most = omega arith; long = p.2; long_state = p.3; lists = λ i h. absurd (omega arith); first_values = λ i h. absurd (omega arith) }
+    record { long = p.2; long_state = p.3; lists = λ i h. absurd (omega arith); first_values = λ i h. absurd (omega arith) }
 
 pub distinct_at-found-requires : goal.distinct_at-found-requires
 distinct_at-found-requires c =
@@ -110,4 +109,4 @@ returns c =
     let t = c.loop-i-test in
     let m = c.loop-i in
     let x = c.args in
-    all x.sets.now m.own m.state m.i m.invariant t.false
+    all x.sets.now m.own m.state m.i m.invariant m.auto.i-end t.false

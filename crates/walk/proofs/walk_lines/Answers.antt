@@ -32,8 +32,8 @@ returns-then-budget-steps c =
     let i1 = c.if-budget-steps in
     spends x.program.now m.counter m.steps x.budget (lists_of m.sets) (listed m.bus) (omega (arith, p.0, t.true)) i1.true ∙ m.invariant.5
 
-pub step-moved-requires : goal.step-moved-requires
-step-moved-requires c =
+pub step-requires : goal.step-requires
+step-requires c =
     let p = c.requires in
     let t = c.loop-counter-test in
     let m = c.loop-counter in
@@ -41,7 +41,7 @@ step-moved-requires c =
 
 pub loop-counter-preserved : goal.loop-counter-preserved
 loop-counter-preserved c =
-    let f = c.step-moved in
+    let f = c.step in
     let m = c.loop-counter in
     let n = c.numbers_at-line in
     let d = c.in-To in
@@ -69,7 +69,7 @@ returns-in-Leaks c =
     let p = c.requires in
     let t = c.loop-counter-test in
     let i1 = c.if-budget-steps in
-    let f = c.step-moved in
+    let f = c.step in
     let n = c.numbers_at-line in
     ends x.program.now m.counter m.steps x.budget (lists_of m.sets) (listed m.bus) (omega (arith, p.0, t.true)) i1.false _ _ (sym c.in-Leaks.is ∙ (f.ensures.value ∙ ap (λ (a : List ℕ). moves (lists_of m.sets) (listed m.bus) (line_by a) m.counter) n.ensures)) refl ∙ m.invariant.5
 
@@ -80,7 +80,7 @@ returns-in-Refuses c =
     let p = c.requires in
     let t = c.loop-counter-test in
     let i1 = c.if-budget-steps in
-    let f = c.step-moved in
+    let f = c.step in
     let n = c.numbers_at-line in
     ends x.program.now m.counter m.steps x.budget (lists_of m.sets) (listed m.bus) (omega (arith, p.0, t.true)) i1.false _ _ (sym c.in-Refuses.is ∙ (f.ensures.value ∙ ap (λ (a : List ℕ). moves (lists_of m.sets) (listed m.bus) (line_by a) m.counter) n.ensures)) refl ∙ m.invariant.5
 

@@ -2,10 +2,7 @@
 use Rattle.balance.proofs.MoveCalls.{by_bits_claim}
 use Rattle.balance.proofs.moves.move_by_bits.Goals as goal
 
-pub returns : goal.returns
-returns c =
-    let e = c.move_image-at_once.ensures in
-    let f = c.from_image-decoded.ensures in
-    let g = c.to_image-coded.ensures in
+pub returns-clause-bits_value : goal.returns-clause-bits_value
+returns-clause-bits_value c =
     let a = c.args in
-    record { moved_after = e; bits_after = f; image_after = g; bits_value = λ h l m. by_bits_claim a.old_position a.old_spacing a.new_position a.new_spacing a.from.now a.moved.now _ a.bits.now _ a.image.now _ _ _ _ e f g h l m }
+    λ h l m. by_bits_claim a.old_position a.old_spacing a.new_position a.new_spacing a.from.now a.moved.now _ a.bits.now _ a.image.now _ _ _ _ c.move_image.ensures c.from_image.ensures c.to_image.ensures h l m

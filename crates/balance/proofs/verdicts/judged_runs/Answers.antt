@@ -2,9 +2,5 @@
 use Rattle.balance.proofs.VerdictCalls.{judged_claim}
 use Rattle.balance.proofs.verdicts.judged_runs.Goals as goal
 
-pub returns : goal.returns
-returns c =
-    let f = c.run-second in
-    let e = c.run-first in
-    let j = c.judge-verdict in
-    record { verdict_value = j.ensures; trace_after = e.ensures; twin_after = f.ensures; as_judged = λ D h. judged_claim _ _ _ _ _ _ _ _ _ _ j.ensures e.ensures f.ensures D h }
+pub returns-clause-as_judged : goal.returns-clause-as_judged
+returns-clause-as_judged c = λ D h. judged_claim _ _ _ _ _ _ _ _ _ _ c.judge.ensures c.run.ensures c.run-2.ensures D h

@@ -13,21 +13,21 @@ none n v h =
     by_form n (λ o. address_by o v ≡ 0) (λ l. refl) (λ g l. refl) (λ g l. refl) (λ g l. absurd (omega arith))
     (λ g l. absurd (omega arith)) (λ g l. absurd (omega arith)) (λ g. absurd (omega arith))
 
-pub returns-then-code-lt-CELLS : goal.returns-then-code-lt-CELLS
-returns-then-code-lt-CELLS c = sym (none _ _ c.if-code-lt-CELLS.true)
+pub returns-in-0-to-288 : goal.returns-in-0-to-288
+returns-in-0-to-288 c = sym (none _ _ (omega arith))
 
-pub returns-then-code-lt-PUBLICS : goal.returns-then-code-lt-PUBLICS
+pub returns-in-289-to-800 : goal.returns-in-289-to-800
 unfolding address_by
-returns-then-code-lt-PUBLICS c = rw (cell _ c.if-code-lt-CELLS.false c.if-code-lt-PUBLICS.true)
+returns-in-289-to-800 c = rw (cell c.args.code (omega arith) (omega arith))
 
-pub returns-then-code-lt-SENSITIVES : goal.returns-then-code-lt-SENSITIVES
+pub returns-in-801-to-4896 : goal.returns-in-801-to-4896
 unfolding address_by
-returns-then-code-lt-SENSITIVES c = rw (public_cell _ c.if-code-lt-PUBLICS.false c.if-code-lt-SENSITIVES.true)
+returns-in-801-to-4896 c = rw (public_cell c.args.code (omega arith) (omega arith))
 
-pub returns-then-code-lt-TABLES : goal.returns-then-code-lt-TABLES
+pub returns-in-4897-to-8992 : goal.returns-in-4897-to-8992
 unfolding address_by
-returns-then-code-lt-TABLES c = rw (sensitive_cell _ c.if-code-lt-SENSITIVES.false c.if-code-lt-TABLES.true)
+returns-in-4897-to-8992 c = rw (sensitive_cell c.args.code (omega arith) (omega arith))
 
-pub returns : goal.returns
+pub returns-in-8993-to-65535 : goal.returns-in-8993-to-65535
 unfolding address_by
-returns c = rw (table_cell _ c.if-code-lt-TABLES.false)
+returns-in-8993-to-65535 c = rw (table_cell c.args.code (omega arith))

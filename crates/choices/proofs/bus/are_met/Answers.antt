@@ -86,7 +86,7 @@ loop-j-init c =
     let xs = reached (lists_of c.args.sets.now) (operand_of c.args.code) in
     let v = listed_at b max_values c.requires.2 0 c.requires.3 in
     let a = reached-at (lists_of c.args.sets.now) (operand_of c.args.code) 0 (rw (← c.base_of-at.ensures) (c.requires.1 c.base_of-at.result)) c.base_of-at.ensures c.value_of.ensures c.address_by.ensures in
-    (omega arith, ap (λ (d : ℕ). all_met d (listed b) xs) (c.distance-first.ensures ∙ ap₂ distance (sym v) a))
+    ap (λ (d : ℕ). all_met d (listed b) xs) (c.distance-first.ensures ∙ ap₂ distance (sym v) a)
 
 pub value_of-requires-in-loop-j : goal.value_of-requires-in-loop-j
 value_of-requires-in-loop-j c = (c.requires.0, omega (arith, c.size_of-n.ensures))
@@ -99,17 +99,17 @@ returns-then-not-is_apart c =
     let S = lists_of c.args.sets.now in
     let o = operand_of c.args.code in
     let h : c.loop-j.j < length (values S (base o)) = rw (← c.base_of-at.ensures) (omega (arith, c.size_of-n.ensures)) in
-    ends S o (listed c.args.bus.now) c.distance-first.result c.loop-j.j h (reached-at S o c.loop-j.j h c.base_of-at.ensures c.value_of-in-loop-j.ensures c.address_by-in-loop-j.ensures) c.is_apart.ensures (c.if-not-is_apart.true) c.loop-j.invariant.1
+    ends S o (listed c.args.bus.now) c.distance-first.result c.loop-j.j h (reached-at S o c.loop-j.j h c.base_of-at.ensures c.value_of-in-loop-j.ensures c.address_by-in-loop-j.ensures) c.is_apart.ensures c.if-not-is_apart.true c.loop-j.invariant
 
 pub loop-j-preserved : goal.loop-j-preserved
 loop-j-preserved c =
     let S = lists_of c.args.sets.now in
     let o = operand_of c.args.code in
     let h : c.loop-j.j < length (values S (base o)) = rw (← c.base_of-at.ensures) (omega (arith, c.size_of-n.ensures)) in
-    (omega arith, goes_on S o (listed c.args.bus.now) c.distance-first.result c.loop-j.j h (reached-at S o c.loop-j.j h c.base_of-at.ensures c.value_of-in-loop-j.ensures c.address_by-in-loop-j.ensures) c.is_apart.ensures (c.if-not-is_apart.false) c.loop-j.invariant.1)
+    goes_on S o (listed c.args.bus.now) c.distance-first.result c.loop-j.j h (reached-at S o c.loop-j.j h c.base_of-at.ensures c.value_of-in-loop-j.ensures c.address_by-in-loop-j.ensures) c.is_apart.ensures c.if-not-is_apart.false c.loop-j.invariant
 
 pub returns : goal.returns
 returns c =
     let S = lists_of c.args.sets.now in
     let o = operand_of c.args.code in
-    over S o (listed c.args.bus.now) c.distance-first.result c.loop-j.j (rw (← c.base_of-at.ensures) (omega (arith, c.size_of-n.ensures))) c.loop-j.invariant.1
+    over S o (listed c.args.bus.now) c.distance-first.result c.loop-j.j (rw (← c.base_of-at.ensures) (omega (arith, c.size_of-n.ensures))) c.loop-j.invariant

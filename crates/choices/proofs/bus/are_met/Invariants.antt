@@ -1,7 +1,6 @@
 -- `choices::bus::are_met` meets its contract. The loop's invariant: the addresses from j on are at that distance exactly where all are.
 -- Assumes nothing.
 use mathlib.Core.Path.{◌≡◌}
-use Prim.Native.Nat.{◌-◌, ◌≤◌}
 use lib.ListN.{drop}
 use Rattle.model.specs.Stored.{operand_of}
 use Rattle.sets.specs.Walk.{listed, lists_of}
@@ -12,7 +11,4 @@ use Rattle.choices.proofs.bus.are_met.Given as goal
 abbrev pub invariant-loop-j : goal.invariant-loop-j
 invariant-loop-j l =
     let xs = reached (lists_of l.sets) (operand_of l.code) in
-    (l.j ≤ l.n) × (all_met l.first (listed l.bus) (drop l.j xs) ≡ met_by (listed l.bus) xs)
-
-abbrev pub decreases-loop-j : goal.decreases-loop-j
-decreases-loop-j l = l.n - l.j
+    all_met l.first (listed l.bus) (drop l.j xs) ≡ met_by (listed l.bus) xs

@@ -6,5 +6,5 @@ use Rattle.choices.proofs.bus.is_alone.Goals as goal
 pub returns-then-size-lt2 : goal.returns-then-size-lt2
 returns-then-size-lt2 c = rw (lt-ltb _ 2 c.if-size-lt2.true) refl
 
-pub returns : goal.returns
-returns c = rw (le-ltb _ 2 c.if-size-lt2.false) refl
+pub returns-else-size-lt2 : goal.returns-else-size-lt2
+returns-else-size-lt2 c = rw (le-ltb _ 2 c.if-size-lt2.false) refl

@@ -1,5 +1,5 @@
 -- `choices::bus::lead` meets its contract: the last operand that has an address tells. Assumes nothing.
-use mathlib.Core.Path.{◌≡◌, sym, ◌∙◌}
+use mathlib.Core.Path.{◌≡◌}
 use mathlib.Core.Bool.{true, false}
 use mathlib.Core.List.{List}
 use Prim.Native.Nat.{ℕ}
@@ -11,17 +11,16 @@ use Rattle.sets.specs.Addresses.{reached, last_addressed, leads}
 use Rattle.choices.specs.Gathering.{line_by}
 use Rattle.choices.proofs.bus.lead.Goals as goal
 
-module _ (S : Sets) (bus : List ℕ) (l : Line) (n : ℕ) (e : operand_of n ≡ last_addressed l) where
-  moved : {xs : List ℕ} → has_address (operand_of n) ≡ true → xs ≡ reached S (operand_of n) → xs ≡ leads S bus l
-  unfolding leads
-  moved h q = rw (← e, h) q
+moved : (S : Sets) (bus : List ℕ) (l : Line) (n : ℕ) {xs : List ℕ} → (operand_of n ≡ last_addressed l) × (has_address (operand_of n) ≡ true) → xs ≡ reached S (operand_of n) → xs ≡ leads S bus l
+unfolding leads
+moved S bus l n e q = rw (← e.0, e.1) q
 
-  left : has_address (operand_of n) ≡ false → bus ≡ leads S bus l
-  unfolding leads
-  left h = rw (← e, h)
+left : (S : Sets) (bus : List ℕ) (l : Line) → has_address (last_addressed l) ≡ false → bus ≡ leads S bus l
+unfolding leads
+left S bus l h = rw h
 
-pub returns-then-has_address : goal.returns-then-has_address
-returns-then-has_address c = (moved (lists_of c.args.sets.now) _ (line_by c.args.line.now) c.addressed-code.result c.addressed-code.ensures (sym c.has_address.ensures ∙ c.if-has_address.true) c.reach.ensures.0, c.reach.ensures.1)
+pub returns-in-Some : goal.returns-in-Some
+returns-in-Some c = (moved (lists_of c.args.sets.now) _ (line_by c.args.line.now) c.in-Some.code c.in-Some.ensures c.reach.ensures.0, c.reach.ensures.1)
 
-pub returns-else-has_address : goal.returns-else-has_address
-returns-else-has_address c = (left (lists_of c.args.sets.now) _ (line_by c.args.line.now) c.addressed-code.result c.addressed-code.ensures (sym c.has_address.ensures ∙ c.if-has_address.false), c.requires.3)
+pub returns-in_default : goal.returns-in_default
+returns-in_default c = (left (lists_of c.args.sets.now) _ (line_by c.args.line.now) c.in_default.ensures, c.requires.3)

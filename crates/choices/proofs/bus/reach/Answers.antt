@@ -28,31 +28,30 @@ abbrev reached-at : List ℕ → ℕ → ℕ → List ℕ
 reached-at b n i = map (address_by (operand_of n)) (values (lists_of b) i)
 
 pub loop-j-init : goal.loop-j-init
-loop-j-init c = (omega arith, length-set c.args.bus.now 0 0 ∙ c.requires.1, get_or-set_same c.args.bus.now 0 0 0 (omega (arith, c.requires.1)), emptied c.args.bus.now (omega (arith, c.requires.1)))
+loop-j-init c = (length-set c.args.bus.now 0 0 ∙ c.requires.1, get_or-set_same c.args.bus.now 0 0 0 (omega (arith, c.requires.1)), emptied c.args.bus.now (omega (arith, c.requires.1)))
 
 pub value_of-requires : goal.value_of-requires
-value_of-requires c = (c.requires.0, omega (arith, c.size_of-n.ensures))
+value_of-requires c = (c.requires.0, omega (arith, c.size_of-j-end.ensures))
 
 pub push-requires : goal.push-requires
-push-requires c = (c.loop-j.invariant.1, omega (arith, c.loop-j.invariant.2, c.size_of-n.ensures, sizes c.args.sets.now c.requires.0 c.base_of-at.result))
+push-requires c = (c.loop-j.invariant.0, omega (arith, c.loop-j.invariant.1, c.size_of-j-end.ensures, sizes c.args.sets.now c.requires.0 c.base_of-at.result))
 
 pub loop-j-preserved : goal.loop-j-preserved
 loop-j-preserved c =
     let vs = values (lists_of c.args.sets.now) c.base_of-at.result in
     let j = c.loop-j.j in (
-      omega arith,
-      c.push.auto.bus ∙ c.loop-j.invariant.1,
-      c.push.ensures.1 ∙ omega (arith, c.loop-j.invariant.2),
-      c.push.ensures.0 ∙ one_more (address_by (operand_of c.args.code)) vs j c.loop-j.invariant.3 (c.address_by.ensures ∙ ap (address_by (operand_of c.args.code)) c.value_of.ensures) (omega (arith, c.size_of-n.ensures)),
+      c.push.auto.bus ∙ c.loop-j.invariant.0,
+      c.push.ensures.1 ∙ omega (arith, c.loop-j.invariant.1),
+      c.push.ensures.0 ∙ one_more (address_by (operand_of c.args.code)) vs j c.loop-j.invariant.2 (c.address_by.ensures ∙ ap (address_by (operand_of c.args.code)) c.value_of.ensures) (omega (arith, c.size_of-j-end.ensures)),
     )
 
 pub shape_of-bus : goal.shape_of-bus
-shape_of-bus c = c.loop-j.invariant.1 ∙ sym c.requires.1
+shape_of-bus c = c.loop-j.invariant.0 ∙ sym c.requires.1
 
 pub returns : goal.returns
 unfolding reached
 returns c =
     let vs = values (lists_of c.args.sets.now) c.base_of-at.result in (
-      c.loop-j.invariant.3 ∙ ap (map (address_by (operand_of c.args.code))) (take_all c.loop-j.j vs (omega (arith, c.size_of-n.ensures))) ∙ ap (λ (i : ℕ). reached-at c.args.sets.now c.args.code i) c.base_of-at.ensures,
-      omega (arith, c.loop-j.invariant.2, c.loop-j.invariant.0, c.size_of-n.ensures, sizes c.args.sets.now c.requires.0 c.base_of-at.result),
+      c.loop-j.invariant.2 ∙ ap (map (address_by (operand_of c.args.code))) (take_all c.loop-j.j vs (omega (arith, c.size_of-j-end.ensures))) ∙ ap (λ (i : ℕ). reached-at c.args.sets.now c.args.code i) c.base_of-at.ensures,
+      omega (arith, c.loop-j.invariant.1, c.size_of-j-end.ensures, sizes c.args.sets.now c.requires.0 c.base_of-at.result),
     )

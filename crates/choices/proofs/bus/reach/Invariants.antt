@@ -1,7 +1,6 @@
 -- `choices::bus::reach` meets its contract. The loop's invariant: the bus lists the addresses of the first j values. Assumes nothing.
 use mathlib.Core.Path.{◌≡◌}
 use mathlib.Core.List.{map}
-use Prim.Native.Nat.{◌-◌, ◌≤◌}
 use lib.ListN.{length, get_or, take}
 use Rattle.model.specs.Stored.{operand_of}
 use Rattle.sets.specs.Walk.{set_width, listed, lists_of, values}
@@ -9,7 +8,4 @@ use Rattle.sets.specs.Addresses.{address_by}
 use Rattle.choices.proofs.bus.reach.Given as goal
 
 abbrev pub invariant-loop-j : goal.invariant-loop-j
-invariant-loop-j l = (l.j ≤ l.n) × (length l.bus ≡ set_width) × (get_or l.bus 0 0 ≡ l.j) × (listed l.bus ≡ map (address_by (operand_of l.code)) (take l.j (values (lists_of l.sets) l.at)))
-
-abbrev pub decreases-loop-j : goal.decreases-loop-j
-decreases-loop-j l = l.n - l.j
+invariant-loop-j l = (length l.bus ≡ set_width) × (get_or l.bus 0 0 ≡ l.j) × (listed l.bus ≡ map (address_by (operand_of l.code)) (take l.j (values (lists_of l.sets) l.at)))

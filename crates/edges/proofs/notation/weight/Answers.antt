@@ -16,4 +16,4 @@ negative_fits n h = rw (to_z_pos w16 n h) (go n h)
     go (suc n) h = rw (lt-ltb 0 (suc n) (omega arith)) (record { sfits = omega arith })
 
 pub overflow_sub-result : goal.overflow_sub-result
-overflow_sub-result c = negative_fits c.least-size.result (omega (arith, c.least-size.ensures))
+overflow_sub-result c = negative_fits c.min-size.result (omega (arith, c.min-size.ensures))

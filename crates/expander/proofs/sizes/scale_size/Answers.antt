@@ -3,8 +3,8 @@ use mathlib.Core.Path.{sym}
 use Rattle.model.proofs.Lengths.{scale-spaced, scale_near}
 use Rattle.expander.proofs.sizes.scale_size.Goals as goal
 
-pub returns-then-spaced : goal.returns-then-spaced
-returns-then-spaced c = sym (scale-spaced _ c.if-spaced.true)
+pub returns-then-layout : goal.returns-then-layout
+returns-then-layout c = sym (scale-spaced _ c.if-layout.true)
 
-pub returns-else-spaced : goal.returns-else-spaced
-returns-else-spaced c = sym (scale_near _ c.if-spaced.false)
+pub returns-else-layout : goal.returns-else-layout
+returns-else-layout c = sym (scale_near _ c.if-layout.false)

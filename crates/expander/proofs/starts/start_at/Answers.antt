@@ -1,9 +1,12 @@
 -- `expander::starts::start_at` meets its contract. By whether there is such a start. Assumes nothing.
-use Rattle.coding.proofs.Tests.{tests}
+use mathlib.Core.Path.{◌≡◌, sym, ◌∙◌}
+use lib.ListN.{get_or}
+use Rattle.std.proofs.Common.{rules}
+use Rattle.expander.proofs.StartTable.{looked_up_any}
 use Rattle.expander.proofs.starts.start_at.Goals as goal
 
-pub returns-then-k-lt-STARTS : goal.returns-then-k-lt-STARTS
-returns-then-k-lt-STARTS c = search tests
-
-pub returns-else-k-lt-STARTS : goal.returns-else-k-lt-STARTS
-returns-else-k-lt-STARTS c = search tests
+pub returns : goal.returns
+returns c =
+    let a = c.args in
+    let got : c.unwrap_or.result ≡ get_or a.starts.now a.t 0 = search rules in
+    got ∙ sym (looked_up_any a.starts.now a.t c.told-starts)

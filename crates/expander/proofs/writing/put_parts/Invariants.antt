@@ -1,5 +1,4 @@
 -- `expander::writing::put_parts` meets its contract. The loop's invariant: the parts of the first i lines are written, up to `at`. Assumes nothing.
-use Prim.Native.Nat.{◌≤◌, ◌-◌}
 use lib.ListN.{take}
 use Rattle.model.specs.Stored.{lines}
 use Rattle.model.specs.Expansion.{joined}
@@ -8,7 +7,4 @@ use Rattle.pieces.specs.Writes.{Wrote}
 use Rattle.expander.proofs.writing.put_parts.Given as goal
 
 abbrev pub invariant-loop-i : goal.invariant-loop-i
-invariant-loop-i l = (l.i ≤ l.count) × Wrote l.initial.out l.out 0 l.at (joined l.layout (looked_up l.starts) (take l.i (lines l.program)))
-
-abbrev pub decreases-loop-i : goal.decreases-loop-i
-decreases-loop-i l = l.count - l.i
+invariant-loop-i l = Wrote l.initial.out l.out 0 l.at (joined l.layout (looked_up l.starts) (take l.i (lines l.program)))

@@ -1,19 +1,13 @@
 -- `lines::reader::read_lines` meets its contract: what is left to read from the position on, with the lines so far, always
 -- comes to what the whole text comes to. Assumes nothing.
-use Prim.Native.Nat.{ℕ}
 use mathlib.Core.Path.{refl, ap, ◌∙◌}
-use mathlib.Core.List.{[], ◌∷◌}
 use native.Mathlib.Omega.{arith}
 use lib.ListN.{drop}
-use Rattle.model.specs.Answers.{refused, outcome}
-use Rattle.text.specs.Lines.{meaning, numbers_of, refusal_of}
-use Rattle.text.proofs.ReadLaws.{left-first, left_done, left-full, left_room, left_stop, left-next}
+use Rattle.text.specs.Lines.{meaning, numbers_of}
+use Rattle.text.proofs.ReadLaws.{left_done, left-full, left_room, left_stop, left-next}
 use Rattle.text.proofs.StoreLaws.{kept_fits}
 use Rattle.lines.proofs.ReaderLaws.{taken_end, taken_line, taken_on}
 use Rattle.lines.proofs.reader.read_lines.Goals as goal
-
-pub loop-got-init : goal.loop-got-init
-loop-got-init c = left-first c.args.text.now c.args.store.now
 
 pub returns-in_default : goal.returns-in_default
 returns-in_default c =
@@ -23,7 +17,7 @@ returns-in_default c =
 
 pub returns-then-n-ge-MAX_LINES : goal.returns-then-n-ge-MAX_LINES
 returns-then-n-ge-MAX_LINES c =
-    let t = c.in-Line in
+    let t = c.in-Some in
     let l = c.loop-got in
     let a = c.args in
     let f = taken_line a.text.now l.at c.take_at-taken.result c.take_at-taken.ensures t.got t.is in
@@ -31,28 +25,25 @@ returns-then-n-ge-MAX_LINES c =
 
 pub returns-then-room-n : goal.returns-then-room-n
 returns-then-room-n c =
-    let t = c.in-Line in
+    let t = c.in-Some in
     let l = c.loop-got in
     let a = c.args in
     let f = taken_line a.text.now l.at c.take_at-taken.result c.take_at-taken.ensures t.got t.is in
     left_room a.text.now a.store.now l.store (drop l.at a.text.now) _ l.n l.invariant f.filled (omega (arith, c.if-n-ge-MAX_LINES.false)) c.if-room-n.true
 
 pub returns-in_default-got : goal.returns-in_default-got
-unfolding refusal_of
 returns-in_default-got c =
-    let g = c.in_default-got in
-    let t = c.in-Line in
+    let t = c.in-Some in
     let l = c.loop-got in
     let a = c.args in
     let f = taken_line a.text.now l.at c.take_at-taken.result c.take_at-taken.ensures t.got t.is in
-    ap (λ (i : ℕ). outcome (refused i l.n) (l.store ∷ [])) (c.refusal.ensures ∙ ap refusal_of g.is)
-    ∙ left_stop a.text.now a.store.now l.store (drop l.at a.text.now) _ l.n l.invariant f.filled (omega (arith, c.if-n-ge-MAX_LINES.false)) c.if-room-n.false g.field-0 (f.front ∙ ap meaning g.is)
+    left_stop a.text.now a.store.now l.store (drop l.at a.text.now) _ l.n l.invariant f.filled (omega (arith, c.if-n-ge-MAX_LINES.false)) c.if-room-n.false _ (f.front ∙ ap meaning c.unwrap_err.ensures)
 
 pub loop-got-preserved : goal.loop-got-preserved
 loop-got-preserved c =
     let q = c.keep_at in
-    let g = c.in-Line-got in
-    let t = c.in-Line in
+    let g = c.in-Ok in
+    let t = c.in-Some in
     let l = c.loop-got in
     let a = c.args in
     let f = taken_line a.text.now l.at c.take_at-taken.result c.take_at-taken.ensures t.got t.is in

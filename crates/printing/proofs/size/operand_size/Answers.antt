@@ -1,36 +1,35 @@
--- `printing::size::operand_size` meets its contract: the tests pick the form of the model's operand. Assumes nothing.
+-- `printing::size::operand_size` meets its contract: the range picks the form of the model's operand. Assumes nothing.
 use native.Mathlib.Omega.{arith}
 use borrow.Author.Rules.{rules}
-use borrow.Author.Tests.{lt-ltb, le-ltb}
-use Rattle.model.specs.Stored.{operand_of}
 use Rattle.model.specs.Text.{spell_operand}
+use Rattle.model.proofs.Forms.{empty, literal, register, cell, public_cell, sensitive_cell, table_cell}
 use Rattle.printing.proofs.SizeLaws.{indirect-size}
 use Rattle.printing.proofs.size.operand_size.Goals as goal
 
-pub returns-then-k-lt-LITERALS : goal.returns-then-k-lt-LITERALS
-unfolding spell_operand operand_of
-returns-then-k-lt-LITERALS c = (rw (lt-ltb _ _ c.if-k-lt-LITERALS.true), search rules)
+pub returns-in_default : goal.returns-in_default
+unfolding spell_operand
+returns-in_default c = (rw (empty c.args.k (omega arith)), search rules)
 
-pub returns-then-k-lt-REGISTERS : goal.returns-then-k-lt-REGISTERS
-unfolding spell_operand operand_of
-returns-then-k-lt-REGISTERS c = (rw (le-ltb _ _ c.if-k-lt-LITERALS.false, lt-ltb _ _ c.if-k-lt-REGISTERS.true) (omega (arith, c.digit_count.ensures.0)), search rules)
+pub returns-in-1-to-256 : goal.returns-in-1-to-256
+unfolding spell_operand
+returns-in-1-to-256 c = (rw (literal c.args.k (omega arith) (omega arith)) (omega (arith, c.digit_count.ensures.0)), search rules)
 
-pub returns-then-k-lt-CELLS : goal.returns-then-k-lt-CELLS
-unfolding spell_operand operand_of
-returns-then-k-lt-CELLS c = (rw (le-ltb _ _ c.if-k-lt-LITERALS.false, le-ltb _ _ c.if-k-lt-REGISTERS.false, lt-ltb _ _ c.if-k-lt-CELLS.true) (omega (arith, c.digit_count-then-k-lt-CELLS.ensures.0)), search rules)
+pub returns-in-257-to-288 : goal.returns-in-257-to-288
+unfolding spell_operand
+returns-in-257-to-288 c = (rw (register c.args.k (omega arith) (omega arith)) (omega (arith, c.digit_count-in-257-to-288.ensures.0)), search rules)
 
-pub returns-then-k-lt-PUBLICS : goal.returns-then-k-lt-PUBLICS
-unfolding spell_operand operand_of
-returns-then-k-lt-PUBLICS c = (rw (le-ltb _ _ c.if-k-lt-LITERALS.false, le-ltb _ _ c.if-k-lt-REGISTERS.false, le-ltb _ _ c.if-k-lt-CELLS.false, lt-ltb _ _ c.if-k-lt-PUBLICS.true) (omega (arith, c.digit_count-then-k-lt-PUBLICS.ensures.0)), search rules)
+pub returns-in-289-to-800 : goal.returns-in-289-to-800
+unfolding spell_operand
+returns-in-289-to-800 c = (rw (cell c.args.k (omega arith) (omega arith)) (omega (arith, c.digit_count-in-289-to-800.ensures.0)), search rules)
 
-pub returns-then-k-lt-SENSITIVES : goal.returns-then-k-lt-SENSITIVES
-unfolding spell_operand operand_of
-returns-then-k-lt-SENSITIVES c = (rw (le-ltb _ _ c.if-k-lt-LITERALS.false, le-ltb _ _ c.if-k-lt-REGISTERS.false, le-ltb _ _ c.if-k-lt-CELLS.false, le-ltb _ _ c.if-k-lt-PUBLICS.false, lt-ltb _ _ c.if-k-lt-SENSITIVES.true, indirect-size) (omega (arith, c.digit_count-then-k-lt-SENSITIVES.ensures.0, c.digit_count-then-k-lt-SENSITIVES-2.ensures.0)), search rules)
+pub returns-in-801-to-4896 : goal.returns-in-801-to-4896
+unfolding spell_operand
+returns-in-801-to-4896 c = (rw (public_cell c.args.k (omega arith) (omega arith), indirect-size) (omega (arith, c.indirect_size.ensures.0)), search rules)
 
-pub returns-then-k-lt-TABLES : goal.returns-then-k-lt-TABLES
-unfolding spell_operand operand_of
-returns-then-k-lt-TABLES c = (rw (le-ltb _ _ c.if-k-lt-LITERALS.false, le-ltb _ _ c.if-k-lt-REGISTERS.false, le-ltb _ _ c.if-k-lt-CELLS.false, le-ltb _ _ c.if-k-lt-PUBLICS.false, le-ltb _ _ c.if-k-lt-SENSITIVES.false, lt-ltb _ _ c.if-k-lt-TABLES.true, indirect-size) (omega (arith, c.digit_count-then-k-lt-TABLES.ensures.0, c.digit_count-then-k-lt-TABLES-2.ensures.0)), search rules)
+pub returns-in-4897-to-8992 : goal.returns-in-4897-to-8992
+unfolding spell_operand
+returns-in-4897-to-8992 c = (rw (sensitive_cell c.args.k (omega arith) (omega arith), indirect-size) (omega (arith, c.indirect_size-in-4897-to-8992.ensures.0)), search rules)
 
-pub returns : goal.returns
-unfolding spell_operand operand_of
-returns c = (rw (le-ltb _ _ c.if-k-lt-LITERALS.false, le-ltb _ _ c.if-k-lt-REGISTERS.false, le-ltb _ _ c.if-k-lt-CELLS.false, le-ltb _ _ c.if-k-lt-PUBLICS.false, le-ltb _ _ c.if-k-lt-SENSITIVES.false, le-ltb _ _ c.if-k-lt-TABLES.false, indirect-size) (omega (arith, c.digit_count-2.ensures.0, c.digit_count-3.ensures.0)), search rules)
+pub returns-in-8993-to-65535 : goal.returns-in-8993-to-65535
+unfolding spell_operand
+returns-in-8993-to-65535 c = (rw (table_cell c.args.k (omega arith), indirect-size) (omega (arith, c.indirect_size-in-8993-to-65535.ensures.0)), search rules)

@@ -6,11 +6,8 @@ use native.Mathlib.Omega.{arith}
 use lib.ListN.{length, get_or}
 use Rattle.model.specs.Stored.{line_at, line_of}
 use Rattle.model.specs.Text.{spell_line}
-use Rattle.printing.proofs.PrintLaws.{sized_none, sized-next, sized_all}
+use Rattle.printing.proofs.PrintLaws.{sized-next, sized_all}
 use Rattle.printing.proofs.size.text_size.Goals as goal
-
-pub loop-i-init : goal.loop-i-init
-loop-i-init c = sized_none c.args.program.now c.args.n
 
 pub loop-i-preserved : goal.loop-i-preserved
 loop-i-preserved c =

@@ -1,61 +1,49 @@
 -- `published::instructions::filled` meets its contract: by the fields that an opcode fills. Assumes nothing.
-use mathlib.Core.Path.{sym, ◌∙◌}
-use lib.Seq.{length-take-le}
+use mathlib.Core.Path.{◌∙◌}
 use native.Mathlib.Omega.{arith}
 use Rattle.published.specs.Table.{entries}
-use Rattle.published.proofs.WordLaws.{wrong_none, right_none, wrong_jump, right_jump, wrong_two, right_two, wrong_three, right-three, right_branch}
+use Rattle.published.proofs.WordLaws.{Cut3, right_none, right_jump, right_two, right-three, right_branch, wrong_count}
+use Rattle.published.proofs.instructions.filled.Goals.{After-part_count}
 use Rattle.published.proofs.instructions.filled.Goals as goal
 
-pub returns-then-count-ne0 : goal.returns-then-count-ne0
-returns-then-count-ne0 c = λ n h. wrong_none (record { start = c.requires.1.1; first = c.word-i.ensures.0; rest = c.after-s2.ensures; second = c.word-j.ensures.0; rest2 = c.after-s3.ensures; third = c.word-k.ensures.0; rest3 = c.after-s4.ensures; there = c.part_count-count.ensures }) n (entries c.args.text.now c.args.table.now c.args.m) c.args.o c.if-o-eq0.true c.if-count-ne0.true
+cuts : (c : After-part_count) → Cut3 c.args.s.now c.after-s2.result.now c.after-s3.result.now c.after-s4.result.now c.word-i.result c.word-j.result c.word-k.result c.part_count.result
+cuts c = record {
+  start = c.requires.1;
+  first = c.word-i.ensures.0;
+  rest = c.after-s2.ensures;
+  second = c.word-j.ensures.0;
+  rest2 = c.after-s3.ensures;
+  third = c.word-k.ensures.0;
+  rest3 = c.after-s4.ensures;
+  there = c.part_count.ensures;
+}
 
-pub returns-then-o-eq0 : goal.returns-then-o-eq0
-returns-then-o-eq0 c = λ n h. c.operands.ensures n (omega arith) ∙ right_none (record { start = c.requires.1.1; first = c.word-i.ensures.0; rest = c.after-s2.ensures; second = c.word-j.ensures.0; rest2 = c.after-s3.ensures; third = c.word-k.ensures.0; rest3 = c.after-s4.ensures; there = c.part_count-count.ensures }) n (entries c.args.text.now c.args.table.now c.args.m) c.args.o c.if-o-eq0.true c.if-count-ne0.false
+pub returns-in-0-eq0 : goal.returns-in-0-eq0
+returns-in-0-eq0 c = λ n h. c.operands.ensures n tt ∙ right_none (cuts (goal.at.returns-in-0-eq0 c).After-part_count) n (entries c.args.labels.now.text.now c.args.labels.now.table c.args.labels.now.count) c.args.o (omega arith) (omega arith)
 
-pub returns-then-count-ne1 : goal.returns-then-count-ne1
-returns-then-count-ne1 c = λ n h. wrong_jump (record { start = c.requires.1.1; first = c.word-i.ensures.0; rest = c.after-s2.ensures; second = c.word-j.ensures.0; rest2 = c.after-s3.ensures; third = c.word-k.ensures.0; rest3 = c.after-s4.ensures; there = c.part_count-count.ensures }) n (entries c.args.text.now c.args.table.now c.args.m) c.args.o c.if-o-eq1.true c.if-count-ne1.true
+pub returns-in-1-eq1 : goal.returns-in-1-eq1
+returns-in-1-eq1 c = λ n h. c.targeted.ensures n h ∙ right_jump (cuts (goal.at.returns-in-1-eq1 c).After-part_count) n (entries c.args.labels.now.text.now c.args.labels.now.table c.args.labels.now.count) c.args.o (omega arith) (omega arith)
 
-pub slice_bounds-targeted-end-then-o-eq1-2 : goal.slice_bounds-targeted-end-then-o-eq1-2
-slice_bounds-targeted-end-then-o-eq1-2 c = sym (length-take-le c.word-i.result _ c.word-i.ensures.1)
+pub returns-in-2-to-3-eq2 : goal.returns-in-2-to-3-eq2
+returns-in-2-to-3-eq2 c = λ n h. c.operands-in-2-to-3-eq2.ensures n tt ∙ right_two (cuts (goal.at.returns-in-2-to-3-eq2 c).After-part_count) n (entries c.args.labels.now.text.now c.args.labels.now.table c.args.labels.now.count) c.args.o (omega arith) (omega arith) (omega arith)
 
-pub returns-then-o-eq1 : goal.returns-then-o-eq1
-returns-then-o-eq1 c = λ n h. c.targeted.ensures n h ∙ right_jump (record { start = c.requires.1.1; first = c.word-i.ensures.0; rest = c.after-s2.ensures; second = c.word-j.ensures.0; rest2 = c.after-s3.ensures; third = c.word-k.ensures.0; rest3 = c.after-s4.ensures; there = c.part_count-count.ensures }) n (entries c.args.text.now c.args.table.now c.args.m) c.args.o c.if-o-eq1.true c.if-count-ne1.false
+pub returns-in-4-to-10-eq3 : goal.returns-in-4-to-10-eq3
+returns-in-4-to-10-eq3 c = λ n h. c.operands-in-4-to-10-eq3.ensures n tt ∙ right-three (cuts (goal.at.returns-in-4-to-10-eq3 c).After-part_count) n (entries c.args.labels.now.text.now c.args.labels.now.table c.args.labels.now.count) c.args.o (omega arith) (omega arith) (omega arith)
 
-pub returns-then-count-ne2 : goal.returns-then-count-ne2
-returns-then-count-ne2 c = λ n h. wrong_two (record { start = c.requires.1.1; first = c.word-i.ensures.0; rest = c.after-s2.ensures; second = c.word-j.ensures.0; rest2 = c.after-s3.ensures; third = c.word-k.ensures.0; rest3 = c.after-s4.ensures; there = c.part_count-count.ensures }) n (entries c.args.text.now c.args.table.now c.args.m) c.args.o (omega (arith, c.if-o-eq0.false, c.if-o-eq1.false)) c.if-o-lt4.true c.if-count-ne2.true
+pub returns-in-11-to-65535-eq3 : goal.returns-in-11-to-65535-eq3
+returns-in-11-to-65535-eq3 c = λ n h. c.targeted-in-11-to-65535-eq3.ensures n h ∙ right_branch (cuts (goal.at.returns-in-11-to-65535-eq3 c).After-part_count) n (entries c.args.labels.now.text.now c.args.labels.now.table c.args.labels.now.count) c.args.o (omega arith) c.requires.0 (omega arith)
 
-pub slice_bounds-operands-end-then-o-lt4 : goal.slice_bounds-operands-end-then-o-lt4
-slice_bounds-operands-end-then-o-lt4 c = sym (length-take-le c.word-i.result _ c.word-i.ensures.1)
+pub returns-in_default : goal.returns-in_default
+returns-in_default c = λ n h. wrong_count (cuts (goal.at.returns-in_default c).After-part_count) n (entries c.args.labels.now.text.now c.args.labels.now.table c.args.labels.now.count) c.args.o c.requires.0 (λ a b. omega arith) (λ a b. omega arith) (λ a e b. omega arith) (λ a b. omega arith)
 
-pub slice_bounds-operands-end-then-o-lt4-2 : goal.slice_bounds-operands-end-then-o-lt4-2
-slice_bounds-operands-end-then-o-lt4-2 c = sym (length-take-le c.word-j.result _ c.word-j.ensures.1)
+pub returns-in_default-2 : goal.returns-in_default-2
+returns-in_default-2 c = λ n h. wrong_count (cuts (goal.at.returns-in_default-2 c).After-part_count) n (entries c.args.labels.now.text.now c.args.labels.now.table c.args.labels.now.count) c.args.o c.requires.0 (λ a b. omega arith) (λ a b. omega arith) (λ a e b. omega arith) (λ a b. omega arith)
 
-pub returns-then-o-lt4 : goal.returns-then-o-lt4
-returns-then-o-lt4 c = λ n h. c.operands-then-o-lt4.ensures n (omega arith) ∙ right_two (record { start = c.requires.1.1; first = c.word-i.ensures.0; rest = c.after-s2.ensures; second = c.word-j.ensures.0; rest2 = c.after-s3.ensures; third = c.word-k.ensures.0; rest3 = c.after-s4.ensures; there = c.part_count-count.ensures }) n (entries c.args.text.now c.args.table.now c.args.m) c.args.o (omega (arith, c.if-o-eq0.false, c.if-o-eq1.false)) c.if-o-lt4.true c.if-count-ne2.false
+pub returns-in_default-3 : goal.returns-in_default-3
+returns-in_default-3 c = λ n h. wrong_count (cuts (goal.at.returns-in_default-3 c).After-part_count) n (entries c.args.labels.now.text.now c.args.labels.now.table c.args.labels.now.count) c.args.o c.requires.0 (λ a b. omega arith) (λ a b. omega arith) (λ a e b. omega arith) (λ a b. omega arith)
 
-pub returns-then-count-ne3 : goal.returns-then-count-ne3
-returns-then-count-ne3 c = λ n h. wrong_three (record { start = c.requires.1.1; first = c.word-i.ensures.0; rest = c.after-s2.ensures; second = c.word-j.ensures.0; rest2 = c.after-s3.ensures; third = c.word-k.ensures.0; rest3 = c.after-s4.ensures; there = c.part_count-count.ensures }) n (entries c.args.text.now c.args.table.now c.args.m) c.args.o c.if-o-lt4.false c.requires.1.0 c.if-count-ne3.true
+pub returns-in_default-4 : goal.returns-in_default-4
+returns-in_default-4 c = λ n h. wrong_count (cuts (goal.at.returns-in_default-4 c).After-part_count) n (entries c.args.labels.now.text.now c.args.labels.now.table c.args.labels.now.count) c.args.o c.requires.0 (λ a b. omega arith) (λ a b. omega arith) (λ a e b. omega arith) (λ a b. omega arith)
 
-pub slice_bounds-operands-end-then-o-lt11 : goal.slice_bounds-operands-end-then-o-lt11
-slice_bounds-operands-end-then-o-lt11 c = sym (length-take-le c.word-i.result _ c.word-i.ensures.1)
-
-pub slice_bounds-operands-end-then-o-lt11-2 : goal.slice_bounds-operands-end-then-o-lt11-2
-slice_bounds-operands-end-then-o-lt11-2 c = sym (length-take-le c.word-j.result _ c.word-j.ensures.1)
-
-pub slice_bounds-operands-end-then-o-lt11-3 : goal.slice_bounds-operands-end-then-o-lt11-3
-slice_bounds-operands-end-then-o-lt11-3 c = sym (length-take-le c.word-k.result _ c.word-k.ensures.1)
-
-pub returns-then-o-lt11 : goal.returns-then-o-lt11
-returns-then-o-lt11 c = λ n h. c.operands-then-o-lt11.ensures n (omega arith) ∙ right-three (record { start = c.requires.1.1; first = c.word-i.ensures.0; rest = c.after-s2.ensures; second = c.word-j.ensures.0; rest2 = c.after-s3.ensures; third = c.word-k.ensures.0; rest3 = c.after-s4.ensures; there = c.part_count-count.ensures }) n (entries c.args.text.now c.args.table.now c.args.m) c.args.o c.if-o-lt4.false c.if-o-lt11.true c.if-count-ne3.false
-
-pub slice_bounds-targeted-end-2 : goal.slice_bounds-targeted-end-2
-slice_bounds-targeted-end-2 c = sym (length-take-le c.word-i.result _ c.word-i.ensures.1)
-
-pub slice_bounds-targeted-end-3 : goal.slice_bounds-targeted-end-3
-slice_bounds-targeted-end-3 c = sym (length-take-le c.word-j.result _ c.word-j.ensures.1)
-
-pub slice_bounds-targeted-end-4 : goal.slice_bounds-targeted-end-4
-slice_bounds-targeted-end-4 c = sym (length-take-le c.word-k.result _ c.word-k.ensures.1)
-
-pub returns : goal.returns
-returns c = λ n h. c.targeted-2.ensures n h ∙ right_branch (record { start = c.requires.1.1; first = c.word-i.ensures.0; rest = c.after-s2.ensures; second = c.word-j.ensures.0; rest2 = c.after-s3.ensures; third = c.word-k.ensures.0; rest3 = c.after-s4.ensures; there = c.part_count-count.ensures }) n (entries c.args.text.now c.args.table.now c.args.m) c.args.o c.if-o-lt11.false c.requires.1.0 c.if-count-ne3.false
+pub returns-in_default-5 : goal.returns-in_default-5
+returns-in_default-5 c = λ n h. wrong_count (cuts (goal.at.returns-in_default-5 c).After-part_count) n (entries c.args.labels.now.text.now c.args.labels.now.table c.args.labels.now.count) c.args.o c.requires.0 (λ a b. omega arith) (λ a b. omega arith) (λ a e b. omega arith) (λ a b. omega arith)

@@ -1,5 +1,5 @@
 -- `published::labels::all_alphanumeric` meets its contract. Assumes nothing.
-use mathlib.Core.Path.{refl, sym, ap, ◌∙◌}
+use mathlib.Core.Path.{sym, ap, ◌∙◌}
 use Prim.Native.Nat.{◌+◌}
 use mathlib.Core.Bool.{Bool, ◌&&◌}
 use lib.ListN.{drop}
@@ -8,11 +8,10 @@ use Rattle.published.proofs.ReadingLaws.{letters_more, letters_none}
 use Rattle.text.proofs.FieldLaws.{and_true}
 use Rattle.published.proofs.labels.all_alphanumeric.Goals as goal
 
-pub loop-i-init : goal.loop-i-init
-loop-i-init c = refl
-
-pub loop-i-preserved : goal.loop-i-preserved
-loop-i-preserved c = ap (λ (t : Bool). (c.loop-i.all && t) && all_alphanumeric (drop (c.loop-i.i + 1) c.args.s.now)) c.is_alphanumeric-all.ensures ∙ letters_more c.args.s.now c.loop-i.i c.loop-i-test.true c.loop-i.all ∙ c.loop-i.invariant
+pub loop-b-preserved : goal.loop-b-preserved
+loop-b-preserved c =
+    ap (λ (t : Bool). (c.loop-b.all && t) && all_alphanumeric (drop (c.loop-b.b-index + 1) c.args.s.now)) c.is_ascii_alphanumeric-all.ensures.value
+    ∙ letters_more c.args.s.now c.loop-b.b-index c.loop-b-test.true c.loop-b.all ∙ c.loop-b.invariant
 
 pub returns : goal.returns
-returns c = sym (and_true c.loop-i.all) ∙ ap (λ (t : Bool). c.loop-i.all && t) (sym (letters_none c.args.s.now c.loop-i.i c.loop-i-test.false)) ∙ c.loop-i.invariant
+returns c = sym (and_true c.loop-b.all) ∙ ap (λ (t : Bool). c.loop-b.all && t) (sym (letters_none c.args.s.now c.loop-b.b-index c.loop-b-test.false)) ∙ c.loop-b.invariant

@@ -5,8 +5,5 @@ use lib.ListN.{length, drop}
 use Rattle.published.specs.Table.{hash_from}
 use Rattle.published.proofs.labels.bucket.Given as goal
 
-abbrev pub invariant-loop-i : goal.invariant-loop-i
-invariant-loop-i l = (l.h < 65536) × (hash_from l.h (drop l.i l.name) ≡ hash_from 0 (drop (length l.name - 8) l.name))
-
-abbrev pub decreases-loop-i : goal.decreases-loop-i
-decreases-loop-i l = length l.name - l.i
+abbrev pub invariant-loop-b : goal.invariant-loop-b
+invariant-loop-b l = (l.h < 65536) × (hash_from l.h (drop l.b-index l.b-items) ≡ hash_from 0 (drop (length l.name - 8) l.name))

@@ -1,20 +1,22 @@
--- `published::lines::code_size` meets its contract: bytes before a comment and the end, one by one. Assumes nothing.
-use native.Mathlib.Nat.{zero-add}
-use native.Mathlib.Omega.{arith}
-use Rattle.published.proofs.PlaceLaws.{code_more, code_at_comment, code_at_end, code_none}
+-- `published::lines::code_size` meets its contract: the place of the first byte that begins a comment or ends the line. Assumes nothing.
+use mathlib.Core.Path.{◌≡◌, sym, ◌∙◌}
+use Prim.Native.Nat.{ℕ}
+use mathlib.Core.Bool.{Bool, ◌||◌}
+use lib.Dec.{eqb}
+use Rattle.std.proofs.Common.{rules, tests}
+use Rattle.std.specs.Prelude.{position}
+use Rattle.std.proofs.lemmas.Iterator.{YieldsList-from_slice}
+use Rattle.std.proofs.lemmas.Iterator.Search.{position_from_yields_List}
+use Rattle.published.specs.Published.{semicolon}
+use Rattle.model.specs.Text.{newline}
+use Rattle.published.proofs.ReadingLaws.{first_few, first_place}
+use Rattle.published.proofs.PlaceLaws.{code_first}
 use Rattle.published.proofs.lines.code_size.Goals as goal
 
-pub loop-i-init : goal.loop-i-init
-loop-i-init c = (omega arith, zero-add _)
-
-pub returns-then-b-eq59 : goal.returns-then-b-eq59
-returns-then-b-eq59 c = (omega (arith, c.loop-i.invariant.1, code_at_comment c.args.line.now c.loop-i.i c.loop-i-test.true c.if-b-eq59.true), c.loop-i.invariant.0)
-
-pub returns-then-b-eq10 : goal.returns-then-b-eq10
-returns-then-b-eq10 c = (omega (arith, c.loop-i.invariant.1, code_at_end c.args.line.now c.loop-i.i c.loop-i-test.true c.if-b-eq10.true), c.loop-i.invariant.0)
-
-pub loop-i-preserved : goal.loop-i-preserved
-loop-i-preserved c = (omega (arith, c.loop-i-test.true), omega (arith, c.loop-i.invariant.1, code_more c.args.line.now c.loop-i.i c.loop-i-test.true c.if-b-eq59.false c.if-b-eq10.false))
-
 pub returns : goal.returns
-returns c = (omega (arith, c.loop-i.invariant.1, code_none c.args.line.now c.loop-i.i c.loop-i-test.false), c.loop-i.invariant.0)
+returns c =
+    let s = c.args.line.now in
+    let ends : ℕ → Bool = λ b. eqb b semicolon || eqb b newline in
+    let e : c.position.result ≡ position ends s = position_from_yields_List ends _ _ c.position.result c.position.ensures.ran (YieldsList-from_slice _ c.iter.ensures.rest) (λ x b q k. search (rules, tests)) in
+    let f = first_place ends s e c.unwrap_or.ensures in
+    (f ∙ sym (code_first s), rw f (first_few ends s))

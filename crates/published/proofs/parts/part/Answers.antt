@@ -1,17 +1,13 @@
 -- `published::parts::part` meets its contract. Assumes nothing.
-use lib.Seq.{length-take-le}
-use Rattle.published.proofs.ReadingLaws.{part_none, part_short, part_there}
-use mathlib.Core.Path.{sym}
+use mathlib.Core.Path.{ap, ◌∙◌}
+use Prim.Native.Nat.{ℕ, ◌-◌}
+use mathlib.Core.List.{List}
+use lib.ListN.{length, take, drop}
+use Rattle.published.proofs.ReadingLaws.{part_there}
 use Rattle.published.proofs.parts.part.Goals as goal
 
-pub returns-then-len-at : goal.returns-then-len-at
-returns-then-len-at c = part_none c.args.text.now c.args.at c.args.n c.if-len-at.true
-
-pub returns-then-rest-n : goal.returns-then-rest-n
-returns-then-rest-n c = part_short c.args.text.now c.args.at c.args.n c.if-rest-n.true
-
-pub slice_bounds-result-end-2 : goal.slice_bounds-result-end-2
-slice_bounds-result-end-2 c = sym (length-take-le c.args.n _ c.if-rest-n.false)
-
 pub returns : goal.returns
-returns c = part_there c.args.text.now c.args.at c.args.n
+returns c =
+    let text = c.args.text.now in
+    let rest : List ℕ = take (length text - c.min.result) (drop c.min.result text) in
+    ap (λ (k : ℕ). take k rest) c.min-2.ensures ∙ part_there text c.args.at c.args.n rest (ap (λ (k : ℕ). take (length text - k) (drop k text)) c.min.ensures)

@@ -1,19 +1,16 @@
--- `published::parts::word` meets its contract. Assumes nothing.
-use native.Mathlib.Nat.{zero-add}
-use Rattle.published.proofs.ReadingLaws.{word_end, word_more, word_none}
-use mathlib.Core.Path.{sym, ◌∙◌}
-use borrow.Author.Rules.{rules}
-use native.Mathlib.Omega.{arith}
+-- `published::parts::word` meets its contract: the place of the first blank. Assumes nothing.
+use mathlib.Core.Path.{◌≡◌, sym, ◌∙◌}
+use Rattle.std.proofs.Common.{rules, tests}
+use Rattle.std.specs.Prelude.{position}
+use Rattle.std.proofs.lemmas.Iterator.{YieldsList-from_slice}
+use Rattle.std.proofs.lemmas.Iterator.Search.{position_from_yields_List}
+use Rattle.published.specs.Published.{is_blank}
+use Rattle.published.proofs.ReadingLaws.{first_few, first_place, word_first}
 use Rattle.published.proofs.parts.word.Goals as goal
 
-pub loop-i-init : goal.loop-i-init
-loop-i-init c = (search rules, zero-add _)
-
-pub returns-then-is_blank : goal.returns-then-is_blank
-returns-then-is_blank c = (omega (arith, c.loop-i.invariant.1, word_end c.args.s.now c.loop-i.i c.loop-i-test.true (sym c.is_blank.ensures ∙ c.if-is_blank.true)), c.loop-i.invariant.0)
-
-pub loop-i-preserved : goal.loop-i-preserved
-loop-i-preserved c = (omega (arith, c.loop-i-test.true), omega (arith, c.loop-i.invariant.1, word_more c.args.s.now c.loop-i.i c.loop-i-test.true (sym c.is_blank.ensures ∙ c.if-is_blank.false)))
-
 pub returns : goal.returns
-returns c = (omega (arith, c.loop-i.invariant.1, word_none c.args.s.now c.loop-i.i c.loop-i-test.false), c.loop-i.invariant.0)
+returns c =
+    let s = c.args.s.now in
+    let e : c.position.result ≡ position is_blank s = position_from_yields_List is_blank _ _ c.position.result c.position.ensures.ran (YieldsList-from_slice _ c.iter.ensures.rest) (λ x b q k. search (rules, tests)) in
+    let f = first_place is_blank s e c.unwrap_or.ensures in
+    (f ∙ sym (word_first s), rw f (first_few is_blank s))

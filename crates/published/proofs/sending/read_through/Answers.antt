@@ -1,11 +1,9 @@
 -- `published::sending::read_through` meets its contract: what is left to read gives the answer. Assumes nothing.
 use mathlib.Core.Path.{sym, ap, ◌∙◌}
-use Prim.Native.Nat.{ℕ}
 use native.Mathlib.Omega.{arith}
 use Rattle.text.proofs.PartLaws.{after_first}
-use Rattle.text.specs.Lines.{numbers_of, meaning, refusal_of}
+use Rattle.text.specs.Lines.{numbers_of, meaning}
 use Rattle.model.specs.Text.{newline}
-use Rattle.model.specs.Answers.{refused}
 use Rattle.published.proofs.LongTexts.{through_first, through_done, through_full, through_stop, through_next}
 use Rattle.published.proofs.sending.read_through.Goals as goal
 
@@ -22,8 +20,7 @@ pub overflow_cast-result-in_default : goal.overflow_cast-result-in_default
 overflow_cast-result-in_default c = omega (arith, c.loop-rest.invariant.few)
 
 pub returns-in_default : goal.returns-in_default
-unfolding refusal_of
-returns-in_default c = ap (λ (k : ℕ). refused k c.loop-rest.n) (c.refusal.ensures ∙ ap refusal_of c.in_default.is) ∙ through_stop c.args.text.now c.loop-rest.rest.now c.loop-rest.n c.loop-rest.invariant c.loop-rest-test.true c.if-n-ge-MAX_LINES.false c.in_default.field-0 (sym c.front_at-got.ensures ∙ ap meaning c.in_default.is)
+returns-in_default c = through_stop c.args.text.now c.loop-rest.rest.now c.loop-rest.n c.loop-rest.invariant c.loop-rest-test.true c.if-n-ge-MAX_LINES.false _ (sym c.front_at-got.ensures ∙ ap meaning c.unwrap_err.ensures)
 
 pub overflow_add-n : goal.overflow_add-n
 overflow_add-n c = omega (arith, c.if-n-ge-MAX_LINES.false)
@@ -32,7 +29,7 @@ pub loop-rest-smaller : goal.loop-rest-smaller
 loop-rest-smaller c = omega (arith, c.if-n-ge-MAX_LINES.false)
 
 pub loop-rest-preserved : goal.loop-rest-preserved
-loop-rest-preserved c = through_next c.args.text.now c.loop-rest.rest.now c.loop-rest.n c.loop-rest.invariant c.loop-rest-test.true c.if-n-ge-MAX_LINES.false (numbers_of c.in-Line.field-0) _ (sym c.front_at-got.ensures ∙ ap meaning c.in-Line.is) (c.beyond-next.ensures ∙ after_first newline c.loop-rest.rest.now c.find.result c.find.ensures.0)
+loop-rest-preserved c = through_next c.args.text.now c.loop-rest.rest.now c.loop-rest.n c.loop-rest.invariant c.loop-rest-test.true c.if-n-ge-MAX_LINES.false (numbers_of c.in-Ok.field-0) _ (sym c.front_at-got.ensures ∙ ap meaning c.in-Ok.is) (c.beyond-rest.ensures ∙ after_first newline c.loop-rest.rest.now c.find.result c.find.ensures.0)
 
 pub overflow_cast-result-2 : goal.overflow_cast-result-2
 overflow_cast-result-2 c = omega (arith, c.loop-rest.invariant.few)

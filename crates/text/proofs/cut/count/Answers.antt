@@ -1,26 +1,24 @@
--- `text::cut::count` meets its contract: what was counted and what the rest has are what the whole has. Assumes nothing.
-use borrow.Author.Rules.{rules}
-use Prim.Native.Nat.{◌≤◌}
-use native.Mathlib.Omega.{arith}
-use native.Mathlib.Nat.{zero-add}
-use lib.ListN.{length, drop_of_length-le}
+-- `text::cut::count` meets its contract: the bytes that the filter lets through are those that the model counts. Assumes nothing.
+use Rattle.std.proofs.Common.{rules, tests, ◌≡◌, ℕ, Bool, true, false, List, [], ◌∷◌, length, refl, ap, ◌∙◌}
+use mathlib.Core.Bool.{cond}
+use Prim.Native.Nat.{suc}
+use lib.Dec.{eqb}
+use Rattle.std.specs.List.{filter}
+use Rattle.std.proofs.lemmas.Iterator.{YieldsList-from_slice}
+use Rattle.std.proofs.lemmas.Iterator.Consumers.{YieldsList-from_filter, count_from_yields_List}
 use Rattle.model.specs.Text.{count_of}
-use Rattle.text.proofs.PartLaws.{count-found, count_other}
 use Rattle.text.proofs.cut.count.Goals as goal
-use Rattle.text.proofs.cut.count.Goals.{then-s-i, else-s-i}
 
-pub loop-i-init : goal.loop-i-init
-loop-i-init c = (search rules, (search rules, zero-add _))
+step : (t : Bool) (b n : ℕ) (s : List ℕ) → length s ≡ n → length (cond t (b ∷ s) s) ≡ cond t (suc n) n
+step true b n s e = ap suc e
+step false b n s e = e
 
-pub loop-i-preserved : goal.loop-i-preserved
-loop-i-preserved c =
-    let l = c.loop-i in
-    let a = c.args in
-    let h = c.loop-i-test.true in
-    elim c.if-s-i.branch [ then-s-i w ↦ omega (arith, count-found a.c a.s.now l.i h w.if-s-i.true) | else-s-i w ↦ omega (arith, count_other a.c a.s.now l.i h w.if-s-i.false) ]
+counted : (c : ℕ) (s : List ℕ) → length (filter (λ b. eqb b c) s) ≡ count_of c s
+unfolding count_of
+counted c [] = refl
+counted c (b ∷ s) = step (eqb b c) b _ _ (counted c s)
 
 pub returns : goal.returns
-unfolding count_of
 returns c =
-    let past : length c.args.s.now ≤ c.loop-i.i = search rules in
-    omega (arith, rw drop_of_length-le at c.loop-i.invariant.1.1)
+    count_from_yields_List c.filter.result _ c.count.ensures.ran (YieldsList-from_filter _ (λ b. eqb b c.args.c) (YieldsList-from_slice c.args.s.now (cc)) c.filter.ensures.closure (λ x r q k. search (rules, tests)))
+    ∙ counted c.args.c c.args.s.now

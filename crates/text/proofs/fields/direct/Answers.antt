@@ -1,20 +1,21 @@
--- `text::fields::direct` meets its contract: the tests pick the case of `read_direct`. Assumes nothing.
-use borrow.Author.Tests.{eq-eqb, ne_eqb}
+-- `text::fields::direct` meets its contract: the arms are the cases of `read_direct`. Assumes nothing.
+use native.Mathlib.Omega.{arith}
+use borrow.Author.Tests.{ne_eqb}
 use Rattle.text.specs.Fields.{read_direct}
 use Rattle.text.proofs.fields.direct.Goals as goal
 
-pub returns-then-c-eq35 : goal.returns-then-c-eq35
+pub returns-in-35 : goal.returns-in-35
 unfolding read_direct
-returns-then-c-eq35 c = simp (eq-eqb _ _ c.if-c-eq35.true) c.plain.ensures
+returns-in-35 c = rw c.in-35.is c.plain.ensures
 
-pub returns-then-c-eq114 : goal.returns-then-c-eq114
+pub returns-in-114 : goal.returns-in-114
 unfolding read_direct
-returns-then-c-eq114 c = simp (ne_eqb _ _ c.if-c-eq35.false, eq-eqb _ _ c.if-c-eq114.true) c.plain-then-c-eq114.ensures
+returns-in-114 c = rw c.in-114.is c.plain-in-114.ensures
 
-pub returns-then-c-eq64 : goal.returns-then-c-eq64
+pub returns-in-64 : goal.returns-in-64
 unfolding read_direct
-returns-then-c-eq64 c = simp (ne_eqb _ _ c.if-c-eq35.false, ne_eqb _ _ c.if-c-eq114.false, eq-eqb _ _ c.if-c-eq64.true) c.plain-then-c-eq64.ensures
+returns-in-64 c = rw c.in-64.is c.plain-in-64.ensures
 
-pub returns : goal.returns
+pub returns-in_default : goal.returns-in_default
 unfolding read_direct
-returns c = simp (ne_eqb _ _ c.if-c-eq35.false, ne_eqb _ _ c.if-c-eq114.false, ne_eqb _ _ c.if-c-eq64.false)
+returns-in_default c = rw (ne_eqb c.args.c 35 (λ e. omega arith), ne_eqb c.args.c 114 (λ e. omega arith), ne_eqb c.args.c 64 (λ e. omega arith))

@@ -1,20 +1,21 @@
--- `text::fields::kind` meets its contract: the tests pick the case of `read_kind`. Assumes nothing.
-use borrow.Author.Tests.{eq-eqb, ne_eqb}
+-- `text::fields::kind` meets its contract: the arms are the cases of `read_kind`. Assumes nothing.
+use native.Mathlib.Omega.{arith}
+use borrow.Author.Tests.{ne_eqb}
 use Rattle.text.specs.Fields.{read_kind}
 use Rattle.text.proofs.fields.kind.Goals as goal
 
-pub returns-then-c-eq33 : goal.returns-then-c-eq33
+pub returns-in-33 : goal.returns-in-33
 unfolding read_kind
-returns-then-c-eq33 c = simp (eq-eqb _ _ c.if-c-eq33.true) c.indirect.ensures
+returns-in-33 c = rw c.in-33.is c.indirect.ensures
 
-pub returns-then-c-eq37 : goal.returns-then-c-eq37
+pub returns-in-37 : goal.returns-in-37
 unfolding read_kind
-returns-then-c-eq37 c = simp (ne_eqb _ _ c.if-c-eq33.false, eq-eqb _ _ c.if-c-eq37.true) c.indirect-then-c-eq37.ensures
+returns-in-37 c = rw c.in-37.is c.indirect-in-37.ensures
 
-pub returns-then-c-eq94 : goal.returns-then-c-eq94
+pub returns-in-94 : goal.returns-in-94
 unfolding read_kind
-returns-then-c-eq94 c = simp (ne_eqb _ _ c.if-c-eq33.false, ne_eqb _ _ c.if-c-eq37.false, eq-eqb _ _ c.if-c-eq94.true) c.indirect-then-c-eq94.ensures
+returns-in-94 c = rw c.in-94.is c.indirect-in-94.ensures
 
-pub returns : goal.returns
+pub returns-in_default : goal.returns-in_default
 unfolding read_kind
-returns c = simp (ne_eqb _ _ c.if-c-eq33.false, ne_eqb _ _ c.if-c-eq37.false, ne_eqb _ _ c.if-c-eq94.false) c.direct.ensures
+returns-in_default c = rw (ne_eqb c.args.c 33 (λ e. omega arith), ne_eqb c.args.c 37 (λ e. omega arith), ne_eqb c.args.c 94 (λ e. omega arith)) c.direct.ensures

@@ -1,28 +1,12 @@
 -- `text::line::parse` meets its contract: the parts between the commas are the model's fields. Assumes nothing.
 use mathlib.Core.Path.{sym, ◌∙◌}
 use borrow.Author.Tests.{ne_eqb}
-use lib.Seq.{length-take-le}
 use Rattle.model.proofs.ReadingLaws.{parsed_text_lem}
 use Rattle.text.proofs.LineLaws.{line_parts}
 use Rattle.text.proofs.line.parse.Goals as goal
 
 pub returns-then-count-ne5 : goal.returns-then-count-ne5
 returns-then-count-ne5 c = rw (parsed_text_lem c.args.s.now, ne_eqb _ _ (λ q. c.if-count-ne5.true (c.count.ensures ∙ q)))
-
-pub slice_bounds-fields-end : goal.slice_bounds-fields-end
-slice_bounds-fields-end c = sym (length-take-le _ _ c.find-n.ensures.1)
-
-pub slice_bounds-fields-end-2 : goal.slice_bounds-fields-end-2
-slice_bounds-fields-end-2 c = sym (length-take-le _ _ c.find-n1.ensures.1)
-
-pub slice_bounds-fields-end-3 : goal.slice_bounds-fields-end-3
-slice_bounds-fields-end-3 c = sym (length-take-le _ _ c.find-n2.ensures.1)
-
-pub slice_bounds-fields-end-4 : goal.slice_bounds-fields-end-4
-slice_bounds-fields-end-4 c = sym (length-take-le _ _ c.find-n3.ensures.1)
-
-pub slice_bounds-fields-end-5 : goal.slice_bounds-fields-end-5
-slice_bounds-fields-end-5 c = sym (length-take-le _ _ c.find-n4.ensures.1)
 
 pub returns : goal.returns
 returns c =

@@ -8,17 +8,14 @@ use Rattle.text.specs.Scanning.{Numbered}
 use Rattle.text.proofs.ScanLaws.{first_digit, zero_there}
 use Rattle.text.proofs.scanning.number.Goals as goal
 
-pub returns-then-s-at : goal.returns-then-s-at
-returns-then-s-at c = λ p. absurd (omega arith)
+pub returns-in-Some-eq48 : goal.returns-in-Some-eq48
+returns-in-Some-eq48 c =
+    let here = c.in-Some-eq48.ensures.lookup.3 in
+    zero_there _ _ c.args.s.now c.args.at _ (search rules) here.0 (omega (arith, here.1 0)) c.answer.ensures
 
-pub returns-then-b-lt48 : goal.returns-then-b-lt48
-returns-then-b-lt48 c = λ p. absurd (omega arith)
-
-pub returns-then-b-gt57 : goal.returns-then-b-gt57
-returns-then-b-gt57 c = λ p. absurd (omega arith)
-
-pub returns-then-b-eq48 : goal.returns-then-b-eq48
-returns-then-b-eq48 c = zero_there _ _ c.args.s.now c.args.at _ (search rules) c.if-s-at.false c.if-b-eq48.true c.answer.ensures
-
-pub returns : goal.returns
-returns c = subst (λ (t : List ℕ). Numbered t c.args.n c.args.more c.args.s.now c.digits.result) (first_digit c.args.s.now c.args.at c.if-s-at.false c.if-b-lt48.false c.if-b-gt57.false) c.digits.ensures
+pub returns-in-Some-49-to-57 : goal.returns-in-Some-49-to-57
+returns-in-Some-49-to-57 c =
+    let here = c.in-Some-49-to-57.ensures.lookup.3 in
+    subst (λ (t : List ℕ). Numbered t c.args.n c.args.more c.args.s.now c.digits.result)
+    (first_digit c.args.s.now c.args.at c.in-Some-49-to-57.b.now here.0 (here.1 0) (omega arith) (omega arith))
+    c.digits.ensures

@@ -1,0 +1,36 @@
+// What the crates of the programs share: room for numbers, whose length is known without counting it, and the way from standard input to
+// standard output.
+ghost use Rattle.std.specs.Prelude.{◌≡◌, ℕ, ◌≤◌, length, get_or};
+ghost use Rattle.model.specs.Answers.{report, counted};
+
+use model::Refusal;
+use std::io::{self, Read, Write};
+
+// Zeros. Their number is a parameter, so that no proof has to count them.
+pub fn room<const N: usize>() -> [u16; N]
+    ensures len { length result ≡ N }
+    ensures zeros { (k : ℕ) → get_or result k 0 ≡ 0 }
+{
+    [0u16; N]
+}
+
+// A program: reads at most the room for its input, has the text of that printed, and writes what was printed.
+pub fn convert<F: FnOnce(&[u8], &mut [u8]) -> Result<u32, Refusal>>(
+    reader: impl Read + Drop,
+    mut writer: impl Write + Drop,
+    input: &mut [u8],
+    output: &mut [u8],
+    print: F,
+) -> io::Result<()>
+    requires callable { F.IsAlwaysCallable print }
+    requires fits { (text : _) (into : _) (answer : _) (printed : _) (n : ℕ) → F.post print text into answer printed → report answer ≡ counted n → n ≤ length printed.now }
+{
+    let room = input.len();
+    let n = io::copy(&mut reader.take(room as u64), &mut &mut input[..])?;
+    let answer = print(&input[..room.min(n as usize)], output);
+    // The room is enough for every text, so 17 is never answered.
+    let Ok(size) = answer else {
+        return Ok(());
+    };
+    writer.write_all(&output[..size as usize])
+}

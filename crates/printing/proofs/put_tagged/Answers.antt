@@ -1,6 +1,0 @@
--- `printing::put_tagged` meets its contract. Assumes nothing.
-use Rattle.printing.proofs.WroteLaws.{then}
-use Rattle.printing.proofs.put_tagged.Goals as goal
-
-pub returns : goal.returns
-returns c = then c.put-a.ensures c.put_number.ensures

@@ -1,9 +1,0 @@
--- `programs::store_room` meets its contract: the length of an array of one value, which is not counted. Assumes nothing.
-use Prim.Native.Nat.{ℕ, ◌*◌}
-use lib.ListN.{length-replicate}
-use Rattle.model.specs.Limits.{line_width}
-use Rattle.model.specs.Programs.{input_size}
-use Rattle.programs.proofs.store_room.Goals as goal
-
-pub returns : goal.returns
-returns c = length-replicate {A = ℕ} (line_width * input_size) 0

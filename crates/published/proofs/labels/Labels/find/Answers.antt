@@ -1,0 +1,55 @@
+-- `published::labels::Labels::find` meets its contract: from label to label of one bucket, what is left gives the answer. Assumes nothing.
+use mathlib.Core.Path.{sym, ap, ◌∙◌}
+use Prim.Native.Nat.{ℕ, ◌-◌}
+use mathlib.Core.List.{List}
+use native.Mathlib.Omega.{arith}
+use Rattle.model.specs.Text.{same_bytes}
+use Rattle.published.proofs.ReadingLaws.{same_bytes_is}
+use Rattle.published.proofs.TableLaws.{sought_first, sought_there, sought_next, sought_less, sought_none, entry_name}
+use Rattle.published.proofs.labels.Labels.find.Goals as goal
+
+pub bounds-self-h : goal.bounds-self-h
+bounds-self-h c = omega (arith, c.requires.1, c.args.self.now.linked.head_room)
+
+pub loop-k-init : goal.loop-k-init
+loop-k-init c = sought_first c.args.self.now.text.now c.args.self.now.heads c.args.self.now.table c.args.self.now.count c.args.name.now c.args.self.now.linked c.args.h c.requires.0 c.requires.1
+
+pub overflow_mul-at : goal.overflow_mul-at
+overflow_mul-at c = omega (arith, c.args.self.now.linked.few, c.loop-k.invariant.few)
+
+pub bounds-self-at : goal.bounds-self-at
+bounds-self-at c = omega (arith, c.args.self.now.linked.few, c.args.self.now.linked.room, c.loop-k.invariant.few, c.loop-k-test.true)
+
+pub overflow_add-at : goal.overflow_add-at
+overflow_add-at c = omega (arith, c.args.self.now.linked.few, c.loop-k.invariant.few)
+
+pub bounds-self-at-in-loop-k : goal.bounds-self-at-in-loop-k
+bounds-self-at-in-loop-k c = omega (arith, c.args.self.now.linked.few, c.args.self.now.linked.room, c.loop-k.invariant.few, c.loop-k-test.true)
+
+pub overflow_add-result : goal.overflow_add-result
+overflow_add-result c = omega (arith, c.args.self.now.linked.few, c.loop-k.invariant.few)
+
+pub bounds-self-at-then-eq : goal.bounds-self-at-then-eq
+bounds-self-at-then-eq c = omega (arith, c.args.self.now.linked.few, c.args.self.now.linked.room, c.loop-k.invariant.few, c.loop-k-test.true)
+
+pub returns-then-eq : goal.returns-then-eq
+returns-then-eq c =
+    let e = ap (λ (l : List ℕ). same_bytes l c.args.name.now) (sym (c.part.ensures ∙ entry_name c.args.self.now.text.now c.args.self.now.table (c.loop-k.k - 1))) ∙ sym (c.eq.ensures ∙ same_bytes_is c.part.result.now c.args.name.now) ∙ c.if-eq.true in
+    sought_there c.args.self.now.text.now c.args.self.now.heads c.args.self.now.table c.args.self.now.count c.args.name.now c.args.self.now.linked c.loop-k.k c.loop-k.invariant c.loop-k-test.true e
+
+pub overflow_add-k : goal.overflow_add-k
+overflow_add-k c = omega (arith, c.args.self.now.linked.few, c.loop-k.invariant.few)
+
+pub bounds-self-at-in-loop-k-2 : goal.bounds-self-at-in-loop-k-2
+bounds-self-at-in-loop-k-2 c = omega (arith, c.args.self.now.linked.few, c.args.self.now.linked.room, c.loop-k.invariant.few, c.loop-k-test.true)
+
+pub loop-k-smaller : goal.loop-k-smaller
+loop-k-smaller c = sought_less c.args.self.now.text.now c.args.self.now.heads c.args.self.now.table c.args.self.now.count c.args.name.now c.args.self.now.linked c.loop-k.k c.loop-k.invariant c.loop-k-test.true
+
+pub loop-k-preserved : goal.loop-k-preserved
+loop-k-preserved c =
+    let e = ap (λ (l : List ℕ). same_bytes l c.args.name.now) (sym (c.part.ensures ∙ entry_name c.args.self.now.text.now c.args.self.now.table (c.loop-k.k - 1))) ∙ sym (c.eq.ensures ∙ same_bytes_is c.part.result.now c.args.name.now) ∙ c.if-eq.false in
+    sought_next c.args.self.now.text.now c.args.self.now.heads c.args.self.now.table c.args.self.now.count c.args.name.now c.args.self.now.linked c.loop-k.k c.loop-k.invariant c.loop-k-test.true e
+
+pub returns : goal.returns
+returns c = sought_none c.args.self.now.text.now c.args.self.now.heads c.args.self.now.table c.args.self.now.count c.args.name.now c.args.self.now.linked c.loop-k.k c.loop-k.invariant c.loop-k-test.false

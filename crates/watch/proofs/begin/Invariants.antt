@@ -1,0 +1,8 @@
+-- `watch::begin` meets its contract. The loop's invariant: the watches before the one in turn are brought up to date. Assumes nothing.
+use Rattle.std.proofs.Common.{◌≡◌}
+use Rattle.watch.specs.Noting.{fresh}
+use Rattle.watch.proofs.Rows.{upto}
+use Rattle.watch.proofs.begin.Given as goal
+
+abbrev pub invariant-loop-w : goal.invariant-loop-w
+invariant-loop-w l = l.watches ≡ upto (fresh l.state) l.w-index l.initial.watches
