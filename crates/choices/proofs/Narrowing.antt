@@ -7,7 +7,7 @@ use Prim.Native.Nat.{ℕ, ◌+◌, ◌*◌, ◌≤◌, ◌<◌}
 use native.Mathlib.Omega.{arith}
 use borrow.Author.Tests.{eqb-true, eqb-false}
 use lib.Dec.{T, eqb, ltb→lt}
-use lib.ListN.{length, get_or, set, drop, length-map, length-set}
+use lib.ListN.{length, get_or, set, drop}
 use lib.Seq.{set-get_or, set-set}
 use Rattle.model.specs.declared.Line.{Line}
 use Rattle.model.specs.Limits.{state_size}
@@ -71,12 +71,6 @@ module _ {l : Line} {b : List ℕ} {s : State} {level k at : ℕ} (P : Opened l 
   }
 
   module _ {c : ℕ} {before : Gathered} {b' : List ℕ} {s' : State} {now : Gathered} {j : ℕ} (I : Turned l c b s level k at before b' s' now j) where
-    pub same_size : length b' ≡ set_width * state_size
-    same_size = sym (length-set (set b' (set_width * at) (count b at)) (set_width * at + 1) (first b at) ∙ length-set b' (set_width * at) (count b at)) ∙ ap length I.back ∙ P.size
-
-    pub same_state_size : length s' ≡ state_size
-    same_state_size = sym (length-set s' at (first b at)) ∙ ap length (I.back_state ∙ P.state) ∙ length-map (lists_of b) (λ xs. get_or xs 0 0) ∙ lists_length state_size b
-
     pub few-values : j < length vs → j < max_values
     few-values h = omega (arith, values_le b P.size at within)
 

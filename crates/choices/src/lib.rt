@@ -5,15 +5,14 @@
 
 #![tactic(auto)]
 
-ghost use Rattle.std.specs.Prelude.{◌≡◌, true, cond, suc, ◌+◌, ◌*◌, ◌<◌, ◌≤◌, eqb, ltb, length, get_or, set, drop, MatchOption};
-ghost use Rattle.model.specs.Limits.{state_size, line_width, row_width};
+ghost use Rattle.std.specs.Prelude.{◌≡◌, true, cond, ◌+◌, ◌*◌, ◌<◌, ◌≤◌, eqb, ltb, get_or, set, drop, MatchOption};
+ghost use Rattle.model.specs.Limits.{state_size};
 ghost use Rattle.model.specs.Stored.{operand_of};
-ghost use Rattle.machine.specs.Loop.{Weights};
 ghost use Rattle.sets.specs.Walk.{set_width, max_values, listed, lists_of, values, heads, base, draw, involved, same_row};
 ghost use Rattle.choices.specs.Gathering.{line_by, argument_places, spot, gathered, visited_all, Settled, Opens, all_at, alike, begun};
 
 use bytes::{ROOM, is_overfull, is_several, note, size_of, value_of};
-use machine::PLACES;
+use machine::tables::Weights;
 use model::{LINE_WIDTH, ROW_WIDTH, STATE_SIZE};
 use sets::{SET_WIDTH, SETS_SIZE};
 
@@ -39,16 +38,15 @@ pub fn base_of(code: u16) -> usize
 }
 
 // The number of the argument that place number `level` is of.
-fn argument_at(line: &[u16], level: usize) -> u16
-    requires { length line.now ≡ line_width }
+fn argument_at(line: &[u16; LINE_WIDTH], level: usize) -> u16
     ensures { result ≡ cond (ltb level 2) (get_or line.now 3 0) (get_or line.now 4 0) }
 {
     if level < 2 { line[3] } else { line[4] }
 }
 
 // Place number `level` of the arguments: the base of the first, the place that it names, and those of the second.
-fn place_of(line: &[u16], level: usize, state: &[u8]) -> usize
-    requires { (length line.now ≡ line_width) × (level < argument_places) }
+fn place_of(line: &[u16; LINE_WIDTH], level: usize, state: &[u8; STATE_SIZE]) -> usize
+    requires { level < argument_places }
     ensures { result ≡ spot (line_by line.now) level state.now }
 {
     let code = argument_at(line, level);
@@ -66,8 +64,13 @@ struct Open {
 }
 
 // The next one from number `level` on, if there is one.
-fn next_open(line: &[u16], level: usize, sets: &[u8], state: &[u8]) -> Option<Open>
-    requires { (length line.now ≡ line_width) × (level ≤ argument_places) × (length sets.now ≡ set_width * state_size) × (state.now ≡ heads (lists_of sets.now)) × Settled (lists_of sets.now) (line_by line.now) level }
+fn next_open(
+    line: &[u16; LINE_WIDTH],
+    level: usize,
+    sets: &[u8; SETS_SIZE],
+    state: &[u8; STATE_SIZE],
+) -> Option<Open>
+    requires { (level ≤ argument_places) × (state.now ≡ heads (lists_of sets.now)) × Settled (lists_of sets.now) (line_by line.now) level }
     ensures { MatchOption result (Opens (lists_of sets.now) (line_by line.now) level argument_places state_size) (λ place. (place.level < argument_places) × Opens (lists_of sets.now) (line_by line.now) level place.level place.at) }
 {
     for k in level..ARGUMENT_PLACES {
@@ -93,12 +96,11 @@ fn is_same(a: &[u16; ROW_WIDTH], b: &[u16; ROW_WIDTH]) -> bool
 }
 
 // Whether all old values of a place are at that distance from a result.
-fn is_at(sets: &[u8], i: usize, res: u8, distance: u16, weights: &[u16; PLACES]) -> bool
-    requires { (length sets.now ≡ set_width * state_size) × Weights weights.now }
+fn is_at(sets: &[u8; SETS_SIZE], i: usize, res: u8, distance: u16, weights: &Weights) -> bool
     ensures { result ≡ all_at distance res (values (lists_of sets.now) i) }
 {
     for j in 0..size_of(sets, i) {
-        if machine::distance_of(weights, value_of(sets, i, j) as u16, res as u16) != distance {
+        if weights.distance_of(value_of(sets, i, j) as u16, res as u16) != distance {
             return false;
         }
     }
@@ -111,12 +113,12 @@ fn is_alike(
     row: &[u16; ROW_WIDTH],
     shown: &[u16; ROW_WIDTH],
     first: bool,
-    sets: &[u8],
+    sets: &[u8; SETS_SIZE],
     i: usize,
     res: u8,
-    weights: &[u16; PLACES],
+    weights: &Weights,
 ) -> bool
-    requires { (first ≡ true → row.now ≡ shown.now) × (length sets.now ≡ set_width * state_size) × Weights weights.now }
+    requires { first ≡ true → row.now ≡ shown.now }
     ensures { result ≡ alike row.now shown.now res (values (lists_of sets.now) i) }
 {
     let changed = row[CHANGED];
@@ -144,9 +146,9 @@ fn visit(
     state: &[u8; STATE_SIZE],
     found: &mut [u8; ROOM],
     leak: bool,
-    weights: &[u16; PLACES],
+    weights: &Weights,
 ) -> bool
-    requires { (state.now ≡ heads (lists_of sets.now)) × (get_or found.old 0 0 ≤ max_values) × Settled (lists_of sets.now) (line_by line.now) argument_places × Weights weights.now }
+    requires { (state.now ≡ heads (lists_of sets.now)) × (get_or found.old 0 0 ≤ max_values) × Settled (lists_of sets.now) (line_by line.now) argument_places }
     ensures { (gathered (listed found.new) result row.new ≡ visited_all (line_by line.now) counter (gathered (listed found.old) leak row.old) (draw (lists_of sets.now) (drop argument_places (involved (line_by line.now))))) × (get_or found.new 0 0 ≤ set_width) }
 {
     let e = machine::effect_of(
@@ -162,8 +164,8 @@ fn visit(
 }
 
 // Sets the count and the first value of a place's set, and the value that it has in the state.
-fn narrow(sets: &mut [u8], state: &mut [u8], i: usize, count: u8, value: u8)
-    requires { (length sets.old ≡ set_width * state_size) × (length state.old ≡ state_size) × (i < state_size) }
+fn narrow(sets: &mut [u8; SETS_SIZE], state: &mut [u8; STATE_SIZE], i: usize, count: u8, value: u8)
+    requires { i < state_size }
     ensures { (sets.new ≡ begun sets.old i count value) × (state.new ≡ set state.old i value) }
 {
     sets[SET_WIDTH * i] = count;
@@ -172,8 +174,8 @@ fn narrow(sets: &mut [u8], state: &mut [u8], i: usize, count: u8, value: u8)
 }
 
 // Value j of a place whose first value is given.
-fn value_beside(sets: &[u8], i: usize, first: u8, j: usize) -> u8
-    requires { (length sets.now ≡ set_width * state_size) × (i < state_size) × (j < max_values) }
+fn value_beside(sets: &[u8; SETS_SIZE], i: usize, first: u8, j: usize) -> u8
+    requires { (i < state_size) × (j < max_values) }
     ensures { result ≡ cond (eqb j 0) first (get_or sets.now (set_width * i + 1 + j) 0) }
 {
     if j == 0 {
@@ -193,10 +195,10 @@ pub fn explore(
     state: &mut [u8; STATE_SIZE],
     found: &mut [u8; ROOM],
     leak: bool,
-    weights: &[u16; PLACES],
+    weights: &Weights,
 ) -> bool
-    requires { (level ≤ argument_places) × (state.old ≡ heads (lists_of sets.old)) × (get_or found.old 0 0 ≤ set_width) × Settled (lists_of sets.old) (line_by line.now) level × Weights weights.now }
-    ensures visited { (gathered (listed found.new) result row.new ≡ visited_all (line_by line.now) counter (gathered (listed found.old) leak row.old) (draw (lists_of sets.old) (drop level (involved (line_by line.now))))) × (get_or found.new 0 0 ≤ set_width) × (length found.new ≡ suc set_width) }
+    requires { (level ≤ argument_places) × (state.old ≡ heads (lists_of sets.old)) × (get_or found.old 0 0 ≤ set_width) × Settled (lists_of sets.old) (line_by line.now) level }
+    ensures visited { (gathered (listed found.new) result row.new ≡ visited_all (line_by line.now) counter (gathered (listed found.old) leak row.old) (draw (lists_of sets.old) (drop level (involved (line_by line.now))))) × (get_or found.new 0 0 ≤ set_width) }
     ensures unchanged { (sets.new ≡ sets.old) × (state.new ≡ state.old) }
 {
     if is_overfull(found) {

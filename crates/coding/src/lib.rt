@@ -52,6 +52,8 @@ pub const SENSITIVES: u16 = 4897;
 
 pub const TABLES: u16 = 8993;
 
+// What a number of the store stands for. Every number stands for something, so this is no `TryFrom`; a `From` would have to stand in model, where
+// the types are, away from the layout of the store.
 pub fn mark_of(code: u16) -> Mark
     ensures { result ≡ mark_of code }
 {
@@ -86,36 +88,32 @@ pub fn opcode_of(code: u16) -> Opcode
 pub fn operand_of(code: u16) -> Operand
     ensures { result ≡ operand_of code }
 {
-    if code < LITERALS {
-        return Operand::Empty;
-    }
-    if code < REGISTERS {
-        return Operand::Literal((code - LITERALS) as u8);
-    }
-    if code < CELLS {
-        return Operand::Register((code - REGISTERS) as u8);
-    }
-    if code < PUBLICS {
-        return Operand::Cell(code - CELLS);
-    }
-    if code < SENSITIVES {
-        let n = code - PUBLICS;
-        return Operand::PublicCell {
-            base: (n / 128) as u8,
-            offset: (n % 128) as u8,
-        };
-    }
-    if code < TABLES {
-        let n = code - SENSITIVES;
-        return Operand::SensitiveCell {
-            base: (n / 128) as u8,
-            offset: (n % 128) as u8,
-        };
-    }
-    let n = code - TABLES;
-    Operand::TableCell {
-        base: (n / 256) as u8,
-        offset: (n % 256) as u8,
+    match code {
+        LITERALS..REGISTERS => Operand::Literal((code - LITERALS) as u8),
+        REGISTERS..CELLS => Operand::Register((code - REGISTERS) as u8),
+        CELLS..PUBLICS => Operand::Cell(code - CELLS),
+        PUBLICS..SENSITIVES => {
+            let n = code - PUBLICS;
+            Operand::PublicCell {
+                base: (n / 128) as u8,
+                offset: (n % 128) as u8,
+            }
+        }
+        SENSITIVES..TABLES => {
+            let n = code - SENSITIVES;
+            Operand::SensitiveCell {
+                base: (n / 128) as u8,
+                offset: (n % 128) as u8,
+            }
+        }
+        TABLES.. => {
+            let n = code - TABLES;
+            Operand::TableCell {
+                base: (n / 256) as u8,
+                offset: (n % 256) as u8,
+            }
+        }
+        _ => Operand::Empty,
     }
 }
 
@@ -197,30 +195,13 @@ fn low(n: u32) -> u16
 pub fn mark_code(mark: Mark) -> u16
     ensures { result ≡ mark_code mark }
 {
-    match mark {
-        Mark::Unmarked => 0,
-        Mark::Marked => 1,
-    }
+    mark as u16
 }
 
 pub fn opcode_code(opcode: Opcode) -> u16
     ensures { result ≡ opcode_code opcode }
 {
-    match opcode {
-        Opcode::Nop => 0,
-        Opcode::Jmp => 1,
-        Opcode::Not => 2,
-        Opcode::Mov => 3,
-        Opcode::And => 4,
-        Opcode::Orr => 5,
-        Opcode::Xor => 6,
-        Opcode::Lsl => 7,
-        Opcode::Lsr => 8,
-        Opcode::Add => 9,
-        Opcode::Mul => 10,
-        Opcode::Beq => 11,
-        Opcode::Bne => 12,
-    }
+    opcode as u16
 }
 
 fn operand_code(operand: Operand) -> u16
@@ -256,19 +237,13 @@ fn target_code(target: Target) -> u16
 pub fn encode(line: Line) -> [u16; LINE_WIDTH]
     ensures { result ≡ map (λ n. n % 65536) (codes line) }
 {
-    let mark = line.mark;
-    let opcode = line.opcode;
-    let destination = line.destination;
-    let first = line.first;
-    let second = line.second;
-    let target = line.target;
     [
-        mark_code(mark),
-        opcode_code(opcode),
-        operand_code(destination),
-        operand_code(first),
-        operand_code(second),
-        target_code(target),
+        mark_code(line.mark),
+        opcode_code(line.opcode),
+        operand_code(line.destination),
+        operand_code(line.first),
+        operand_code(line.second),
+        target_code(line.target),
     ]
 }
 
@@ -276,52 +251,27 @@ pub fn encode(line: Line) -> [u16; LINE_WIDTH]
 pub fn is_shaped(o: u16, d: bool, a: bool, b: bool, t: bool) -> bool
     ensures { result ≡ same_filled (fills (opcode_of o)) (filled d a b t) }
 {
-    if o == 0 {
-        return !(d | a | b | t);
+    match o {
+        1 => !(d | a | b) & t,
+        2..4 => d & a & !(b | t),
+        4..11 => d & a & b & !t,
+        11..OPCODES => !d & a & b & t,
+        _ => !(d | a | b | t),
     }
-    if o == 1 {
-        return !(d | a | b) & t;
-    }
-    if o < 4 {
-        return d & a & !(b | t);
-    }
-    if o < 11 {
-        return d & a & b & !t;
-    }
-    if o < OPCODES {
-        return !d & a & b & t;
-    }
-    !(d | a | b | t)
 }
 
 // Whether an operand's number is a literal's.
 fn is_literal(code: u16) -> bool
     ensures { result ≡ is_literal (operand_of code) }
 {
-    if code < LITERALS {
-        false
-    } else {
-        code < REGISTERS
-    }
+    matches!(code, LITERALS..REGISTERS)
 }
 
 // Whether operands and target are numbers of such, and the destination's is no literal's.
 fn is_in_range(d: u16, a: u16, b: u16, t: u16) -> bool
     ensures { result ≡ in_range d a b t }
 {
-    if OPERANDS <= d {
-        return false;
-    }
-    if is_literal(d) {
-        return false;
-    }
-    if OPERANDS <= a {
-        return false;
-    }
-    if OPERANDS <= b {
-        return false;
-    }
-    t < TARGETS
+    d < OPERANDS && !is_literal(d) && a < OPERANDS && b < OPERANDS && t < TARGETS
 }
 
 // The condition that six numbers break, 3 to 6, lowest first.

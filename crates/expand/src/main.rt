@@ -3,37 +3,21 @@
 
 #![tactic(auto)]
 
-ghost use Rattle.std.specs.Prelude.{◌≡◌, ◌+◌, length};
-ghost use Rattle.model.specs.Programs.{input_size};
-ghost use Rattle.programs.specs.Sizes.{expansion_bytes};
-
-use lines::shared::convert;
+use lines::shared::{convert, filled};
 use std::io;
 
 // Room for one byte more than the programs read, so that a longer input is told.
 const INPUT_ROOM: usize = programs::INPUT_SIZE + 1;
 
-fn input_room() -> [u8; INPUT_ROOM]
-    ensures { length result ≡ input_size + 1 }
-{
-    [0u8; INPUT_ROOM]
-}
-
 // Room for the text of every expansion.
 const OUTPUT_ROOM: usize = programs::EXPANSION_BYTES;
-
-fn output_room() -> [u8; OUTPUT_ROOM]
-    ensures { length result ≡ expansion_bytes }
-{
-    [0u8; OUTPUT_ROOM]
-}
 
 fn main(rt: HostRuntime) -> io::Result<()> {
     convert(
         rt.stdin(),
         rt.stdout(),
-        &mut input_room(),
-        &mut output_room(),
+        &mut filled::<u8, INPUT_ROOM>(0),
+        &mut filled::<u8, OUTPUT_ROOM>(0),
         programs::print_expansion,
     )
 }

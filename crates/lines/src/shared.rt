@@ -1,17 +1,25 @@
-// What the crates of the programs share: room for numbers, whose length is known without counting it, and the way from standard input to
-// standard output.
+// What the crates of the programs share: room, whose length is known without counting it, and the way from standard input to standard
+// output.
 ghost use Rattle.std.specs.Prelude.{◌≡◌, ℕ, ◌≤◌, length, get_or};
 ghost use Rattle.model.specs.Answers.{report, counted};
 
 use model::Refusal;
 use std::io::{self, Read, Write};
 
-// Zeros. Their number is a parameter, so that no proof has to count them.
+// One value, N times. The number is a parameter, so that no proof has to count them.
+pub fn filled<T: Copy, const N: usize>(x: T) -> [T; N]
+    ensures len { length result ≡ N }
+    ensures all { (k : ℕ) → get_or result k x ≡ x }
+{
+    [x; N]
+}
+
+// Zeros.
 pub fn room<const N: usize>() -> [u16; N]
     ensures len { length result ≡ N }
     ensures zeros { (k : ℕ) → get_or result k 0 ≡ 0 }
 {
-    [0u16; N]
+    filled(0)
 }
 
 // A program: reads at most the room for its input, has the text of that printed, and writes what was printed.

@@ -53,13 +53,6 @@ addresses = 512
 abbrev pub ByPlace : (ℕ → ℕ) → List ℕ → Type 0
 ByPlace f table = (i : ℕ) → i ≤ state_size → slice_index table i ≡ f i
 
--- the masks of all places, and the weights of their addresses
-abbrev pub Masks : List ℕ → Type 0
-Masks = ByPlace mask
-
-abbrev pub Weights : List ℕ → Type 0
-Weights = ByPlace (λ i. weight (address_at i))
-
 -- whether place i is a cell is told by the number of the operand that names it
 unfoldable pub CellBy : ℕ → ℕ → Type 0
 CellBy n i = (n < cells → is_cell i ≡ false) × (cells ≤ n → is_cell i ≡ true)

@@ -11,19 +11,14 @@ ghost use Rattle.model.specs.Stored.{registers, opcode_of, operand_of, target_of
 ghost use Rattle.model.specs.Step.{weight, distance, shift_by, negated, alu, taken, target_line, meaning, next, after, bus_after, row};
 ghost use Rattle.model.specs.Places.{kind, place};
 ghost use Rattle.model.specs.Run.{run_outcome};
-ghost use Rattle.machine.specs.Loop.{fetch_of, arguments_of, address_at, is_cell, CellBy, on_bus_at, addresses, mask, Masks, Weights, row_of, effect_of, jumps, put_row, machine, admission, run_from};
+ghost use Rattle.machine.specs.Loop.{fetch_of, arguments_of, CellBy, on_bus_at, addresses, row_of, effect_of, jumps, put_row, machine, admission, run_from};
 
 use model::{Condition, Ending, LINE_WIDTH, Mark, Opcode, ROW_WIDTH, Refusal, STATE_SIZE};
 use steps::Run;
+use tables::{Masks, Weights};
 
 pub mod steps;
-
-// The Hamming weight.
-fn weight(n: u16) -> u16
-    ensures { result ≡ weight n }
-{
-    u16::count_ones(n) as u16
-}
+pub mod tables;
 
 // The Hamming distance.
 #[tactic(auto, unfolding(model::specs::Step::distance))]
@@ -221,35 +216,10 @@ fn read_arguments(mark: Mark, x: Fetched, y: Fetched) -> Arguments
     }
 }
 
-// What a marked line keeps of a byte: its lowest bit, or all of it.
-const LOWEST: u8 = 1;
-
-const WHOLE: u8 = 255;
-
-// The places of a state, and the one past them, which is none.
-pub const PLACES: usize = STATE_SIZE + 1;
-
-// What it keeps of a byte at a place.
-fn mask_at(i: usize) -> u8
-    ensures { result ≡ mask i }
-{
-    if coding::is_public(coding::kind_at(i)) {
-        LOWEST
-    } else {
-        WHOLE
-    }
-}
-
-// The masks of all places. A run makes them once: to tell the kind of a place at each argument of each step would make it slower by a third.
-pub fn all_masks() -> [u8; PLACES]
-    ensures { Masks result }
-{
-    std::array::from_fn(mask_at)
-}
-
 // The arguments of a line of that mark, by the masks.
-fn mask_arguments(mark: Mark, x: Fetched, y: Fetched, masks: &[u8; PLACES]) -> Arguments
-    requires { Masks masks.now × (x.at ≤ state_size) × (y.at ≤ state_size) }
+#[tactic(auto, unfolding(model::specs::Step::meaning))]
+fn mask_arguments(mark: Mark, x: Fetched, y: Fetched, masks: &Masks) -> Arguments
+    requires { (x.at ≤ state_size) × (y.at ≤ state_size) }
     ensures { result ≡ arguments_of mark x y }
 {
     match mark {
@@ -258,8 +228,8 @@ fn mask_arguments(mark: Mark, x: Fetched, y: Fetched, masks: &[u8; PLACES]) -> A
             second: y.value,
         },
         Mark::Marked => Arguments {
-            first: x.value & masks[x.at],
-            second: y.value & masks[y.at],
+            first: masks.kept(x.at, x.value),
+            second: masks.kept(y.at, y.value),
         },
     }
 }
@@ -281,48 +251,6 @@ fn replace(code: u16, res: u8, state: &mut [u8]) -> Replaced
     Replaced { at, old }
 }
 
-// Whether a place is a cell, which has an address.
-fn is_cell(at: usize) -> bool
-    ensures { result ≡ is_cell at }
-{
-    32 <= at && at < STATE_SIZE
-}
-
-// The weight of the address of a place: of a cell its number's, of any other 0.
-fn address_weight(at: usize) -> u16
-    ensures { result ≡ weight (address_at at) }
-{
-    if is_cell(at) {
-        weight((at - 32) as u16)
-    } else {
-        0
-    }
-}
-
-// The weights of the addresses of all places. A run and a walk make them once: not every processor has an instruction that counts ones, and a
-// row has eight counts of ones.
-pub fn all_weights() -> [u16; PLACES]
-    ensures { Weights result }
-{
-    std::array::from_fn(address_weight)
-}
-
-// The weight of a byte or of an address, by the table: cell n is place 32 + n.
-fn weight_of(weights: &[u16; PLACES], n: u16) -> u16
-    requires { Weights weights.now × (n < addresses) }
-    ensures { result ≡ weight n }
-{
-    weights[32 + (n as usize)]
-}
-
-// The distance of two bytes or two addresses, by the table.
-pub fn distance_of(weights: &[u16; PLACES], x: u16, y: u16) -> u16
-    requires { Weights weights.now × (x < addresses) × (y < addresses) }
-    ensures { result ≡ distance x y }
-{
-    weight_of(weights, x ^ y)
-}
-
 // What an operand's address shows on the bus: the bus afterwards, and the address's weight and its distance from the one before.
 #[derive(Clone, Copy)]
 struct OnBus {
@@ -333,8 +261,8 @@ struct OnBus {
 
 // The address of the place that an operand's number names, put on the bus. A number below the cells' names no cell: there is no address, and
 // the bus stays. The number is asked and not the place, as it has been asked already to find the place.
-fn put_on_bus(code: u16, at: usize, bus: u16, weights: &[u16; PLACES]) -> OnBus
-    requires { Weights weights.now × (at ≤ state_size) × CellBy code at × (bus < addresses) }
+fn put_on_bus(code: u16, at: usize, bus: u16, weights: &Weights) -> OnBus
+    requires { (at ≤ state_size) × CellBy code at × (bus < addresses) }
     ensures { (result ≡ on_bus_at at bus) × (result.bus < addresses) }
 {
     if code < coding::CELLS {
@@ -347,8 +275,8 @@ fn put_on_bus(code: u16, at: usize, bus: u16, weights: &[u16; PLACES]) -> OnBus
     let address = (at - 32) as u16;
     OnBus {
         bus: address,
-        weight: weights[at],
-        distance: distance_of(weights, bus, address),
+        weight: weights.by_place[at],
+        distance: weights.distance_of(bus, address),
     }
 }
 
@@ -361,15 +289,14 @@ fn row_of(
     first: OnBus,
     second: OnBus,
     destination: OnBus,
-    weights: &[u16; PLACES],
+    weights: &Weights,
 ) -> [u16; ROW_WIDTH]
-    requires { Weights weights.now }
     ensures { result ≡ row_of line old res first second destination }
 {
     [
         line,
-        weight_of(weights, res as u16),
-        distance_of(weights, old as u16, res as u16),
+        weights.weight_of(res as u16),
+        weights.distance_of(old as u16, res as u16),
         first.weight,
         second.weight,
         destination.weight,
@@ -387,7 +314,8 @@ pub struct Effect {
     pub row: [u16; ROW_WIDTH],
 }
 
-// The effect of a line, whatever its target; nothing is written. `perform` below does not call it: a run would be twice as slow.
+// The effect of a line, whatever its target; nothing is written. `perform` below does not call it: a run would be twice as slow. One function
+// for both would be no shorter: generic in how arguments are read (a walk makes no masks), and answering arguments and bus besides.
 pub fn effect_of(
     m: u16,
     o: u16,
@@ -397,9 +325,9 @@ pub fn effect_of(
     counter: u16,
     bus: u16,
     state: &[u8],
-    weights: &[u16; PLACES],
+    weights: &Weights,
 ) -> Effect
-    requires { Weights weights.now × (bus < addresses) }
+    requires { bus < addresses }
     ensures { result ≡ effect_of (line_of m o d a b 0) counter state.now bus }
 {
     let mark = coding::mark_of(m);
@@ -458,11 +386,11 @@ fn perform(
     t: u16,
     counter: u16,
     bus: u16,
-    masks: &[u8; PLACES],
-    weights: &[u16; PLACES],
+    masks: &Masks,
+    weights: &Weights,
     state: &mut [u8],
 ) -> Done
-    requires { (counter < 65535) × Masks masks.now × Weights weights.now × (bus < addresses) }
+    requires { (counter < 65535) × (bus < addresses) }
     ensures next_and_row { (result.next ≡ next (line_of m o d a b t) counter state.old) × (result.row ≡ row (line_of m o d a b t) counter state.old bus) }
     ensures bus_after { (result.bus ≡ bus_after (line_of m o d a b t) state.old bus) × (result.bus < addresses) }
     ensures state_after { (state.new ≡ after (line_of m o d a b t) state.old) × (result.place ≡ place (operand_of d) state.old) }
@@ -505,7 +433,7 @@ fn write_row(trace: &mut [u16], n: usize, row: [u16; ROW_WIDTH])
     }
 }
 
-// At most `budget` steps of a checked program.
+// At most `budget` steps of a checked program. The two ends are two tests: with one test of both in the loop, a step takes a fifth longer.
 fn run_lines(
     program: &[u16],
     start: u16,
@@ -517,26 +445,16 @@ fn run_lines(
     ensures { outcome (ended result) (state.new ∷ trace.new ∷ []) ≡ run_from program.now (line_count program.now) budget (machine (record { counter = start; steps = 0; bus = 0 }) state.old trace.old) }
 {
     let count = program.len() / LINE_WIDTH;
-    let masks = all_masks();
-    let weights = all_weights();
-    let mut run = Run {
-        counter: start,
-        steps: 0,
-        bus: 0,
-    };
+    let masks = Masks::all();
+    let weights = Weights::all();
+    let mut run = Run::new(start);
     while (run.counter as usize) < count {
         if budget <= run.steps {
-            return Ending::Spent {
-                counter: run.counter,
-                steps: run.steps,
-            };
+            return run.spent();
         }
         run = run.step(program, &masks, &weights, state, trace).run;
     }
-    Ending::Halted {
-        counter: run.counter,
-        steps: run.steps,
-    }
+    run.halted()
 }
 
 // A run's refusals, from the sizes of the state and the trace store; else the count of lines.

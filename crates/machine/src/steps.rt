@@ -1,11 +1,13 @@
-// A run's counter, step tally and bus, and one step, which takes all three and hands all back, and the place that it wrote.
+// A run's counter, step tally and bus; how it begins and ends; and one step, which takes all three and hands all back, and the place that it wrote.
 ghost use Rattle.std.specs.Prelude.{◌≡◌, ◌+◌, ◌*◌, ◌<◌, ◌≤◌, length};
 ghost use Rattle.model.specs.Limits.{row_width};
+ghost use Rattle.model.specs.Answers.{ended, halted, spent};
 ghost use Rattle.model.specs.Places.{place};
 ghost use Rattle.model.specs.Stored.{line_at};
-ghost use Rattle.machine.specs.Loop.{addresses, Masks, Weights, machine, step_of};
+ghost use Rattle.machine.specs.Loop.{addresses, machine, step_of};
 
-use super::PLACES;
+use super::tables::{Masks, Weights};
+use model::Ending;
 
 #[derive(Clone, Copy)]
 pub struct Run {
@@ -22,17 +24,47 @@ pub struct Stepped {
 }
 
 impl Run {
+    // A run before its first step.
+    pub fn new(start: u16) -> Self
+        ensures { result ≡ record { counter = start; steps = 0; bus = 0 } }
+    {
+        Run {
+            counter: start,
+            steps: 0,
+            bus: 0,
+        }
+    }
+
+    // How it ends past its last line, and with its budget used up.
+    pub fn halted(self) -> Ending
+        ensures { ended result ≡ halted self.counter self.steps }
+    {
+        Ending::Halted {
+            counter: self.counter,
+            steps: self.steps,
+        }
+    }
+
+    pub fn spent(self) -> Ending
+        ensures { ended result ≡ spent self.counter self.steps }
+    {
+        Ending::Spent {
+            counter: self.counter,
+            steps: self.steps,
+        }
+    }
+
     // One step of a stored program, with room in the trace store for its row.
     #[inline(always)]
     pub fn step(
         self,
         program: &[u16],
-        masks: &[u8; PLACES],
-        weights: &[u16; PLACES],
+        masks: &Masks,
+        weights: &Weights,
         state: &mut [u8],
         trace: &mut [u16],
     ) -> Stepped
-        requires { Masks masks.now × Weights weights.now × (self.counter < 65535) × (self.steps < 65535) × (self.bus < addresses) × (row_width * self.steps + row_width ≤ length trace.old) }
+        requires { (self.counter < 65535) × (self.steps < 65535) × (self.bus < addresses) × (row_width * self.steps + row_width ≤ length trace.old) }
         ensures stepped { machine result.run state.new trace.new ≡ step_of program.now (machine self state.old trace.old) }
         ensures bus_and_place { (result.run.bus < addresses) × (result.place ≡ place (line_at program.now self.counter).destination state.old) }
     {

@@ -64,6 +64,7 @@ pub enum Kind {
     Sensitive,
 }
 
+// The last field of a line: empty, or a line of the program. It has the word of the other fields, `Empty`, so an `Option` would read no plainer.
 #[derive(Clone, Copy, PartialEq, Eq)]
 pub enum Target {
     Empty,

@@ -1,5 +1,5 @@
 -- The first pass: labels and counts of the lines so far, and what is left always gives those of the whole text. Assumes nothing.
-use Prim.Native.Nat.{ℕ, zero, suc, ◌+◌, ◌-◌, ◌*◌, ◌≤◌, ◌<◌}
+use Prim.Native.Nat.{ℕ, zero, suc, ◌+◌, ◌-◌, ◌≤◌, ◌<◌}
 use mathlib.Core.Bool.{Bool, true, false, cond, not, ◌&&◌}
 use mathlib.Core.Path.{◌≡◌, refl, sym, ap, ap₂, ◌∙◌}
 use mathlib.Core.List.{List}
@@ -9,9 +9,10 @@ use lib.ListN.{length, get_or, take, drop}
 use lib.Dec.{ltb, eqb}
 use borrow.Author.Tests.{eq-eqb, ne_eqb, eqb-true, lt-ltb}
 use Rattle.model.specs.Text.{newline, up_to}
+use Rattle.published.specs.declared.labels.Entry.{Entry}
 use Rattle.published.specs.Published.{max_labels, words, TextLine, text_lines, bit, labelled, label_name, is_counted, Label, is_within, labels_after, label_wrong, Seen, none_seen, after, seen_from}
 use Rattle.published.specs.Reading.{trimmed, code_of, body_of, label_size}
-use Rattle.published.specs.Table.{buckets, entry_width, entries, last_in, Linked, Added}
+use Rattle.published.specs.Table.{buckets, entries, last_in, Linked, Added}
 use Rattle.published.specs.Passes.{seen_in, clean_from, Named, Collected}
 use Rattle.published.proofs.SeenLaws.{seen-cons, seen-nil, clean_cons, clean_nil}
 use Rattle.published.proofs.PlaceLaws.{label-zero, label-full, label_long}
@@ -19,13 +20,13 @@ use Rattle.published.proofs.TextLaws.{front_of, front_at, labelled_is, name_plac
 
 -- ---- no labels yet
 
-pub none_linked : (text heads table : List ℕ) → ((i : ℕ) → get_or heads i 0 ≡ 0) → length heads ≡ buckets → length table ≡ entry_width * max_labels → Linked text heads table 0
+pub none_linked : (text heads : List ℕ) (table : List Entry) → ((i : ℕ) → get_or heads i 0 ≡ 0) → length heads ≡ buckets → length table ≡ max_labels → Linked text heads table 0
 unfolding last_in
 none_linked text heads table e h t = record { few = omega arith; head_room = h; room = t; last = λ b g. e b; before = λ k g. absurd (omega arith) }
 
 -- ---- the label of a line
 
-module _ (text old heads table : List ℕ) (m : ℕ) (n : ℕ) (start size w : ℕ) where
+module _ (text : List ℕ) (old : List Entry) (heads : List ℕ) (table : List Entry) (m : ℕ) (n : ℕ) (start size w : ℕ) where
   abbrev code : List ℕ
   code = take size (drop start text)
 
@@ -58,7 +59,7 @@ module _ (text old heads table : List ℕ) (m : ℕ) (n : ℕ) (start size w : �
 
 -- ---- line after line
 
-pub record Walked (text heads table : List ℕ) (at i m n clean : ℕ) : Type 0 where
+pub record Walked (text heads : List ℕ) (table : List Entry) (at i m n clean : ℕ) : Type 0 where
   pub linked : Linked text heads table m
   pub lines : i ≤ at
   pub low : n ≤ at
@@ -67,7 +68,7 @@ pub record Walked (text heads table : List ℕ) (at i m n clean : ℕ) : Type 0 
   pub behind : clean ≤ i
   pub clear : cond (eqb clean i) (i + clean_from (seen_in text table m n) (text_lines (drop at text))) clean ≡ clean_from none_seen (text_lines text)
 
-pub walked_none : (text heads table : List ℕ) (m : ℕ) → m ≡ 0 → Linked text heads table m → Walked text heads table 0 0 m 0 0
+pub walked_none : (text heads : List ℕ) (table : List Entry) (m : ℕ) → m ≡ 0 → Linked text heads table m → Walked text heads table 0 0 m 0 0
 unfolding entries
 walked_none text heads table m z L = let M = rw z at L in rw z (record { linked = M; lines = omega arith; low = omega arith; near = omega arith; left = refl; behind = omega arith; clear = zero-add _ })
 
@@ -85,7 +86,7 @@ behind_more : (clean i : ℕ) (t : Bool) → clean ≤ i → cond t (i + 1) clea
 behind_more clean i true h = omega arith
 behind_more clean i false h = omega arith
 
-module _ (text heads table : List ℕ) (at i m n clean : ℕ) (W : Walked text heads table at i m n clean) (h : at < length text) (code : List ℕ) (e : code ≡ code_of (drop at text)) where
+module _ (text heads : List ℕ) (table : List Entry) (at i m n clean : ℕ) (W : Walked text heads table at i m n clean) (h : at < length text) (code : List ℕ) (e : code ≡ code_of (drop at text)) where
   abbrev later : List TextLine
   later = text_lines (drop (at + length (up_to newline (drop at text)) + 1) text)
 
@@ -96,7 +97,7 @@ module _ (text heads table : List ℕ) (at i m n clean : ℕ) (W : Walked text h
   bit-few true = omega arith
   bit-few false = omega arith
 
-  pub walked_next : {new-heads new : List ℕ} {r w k next c : ℕ} {b : Bool} → Named text table new-heads new m r w (words code) n → k ≡ bit (ltb 0 (length (body_of code)))
+  pub walked_next : {new-heads : List ℕ} {new : List Entry} {r w k next c : ℕ} {b : Bool} → Named text table new-heads new m r w (words code) n → k ≡ bit (ltb 0 (length (body_of code)))
       → next ≡ at + length (up_to newline (drop at text)) + 1 → b ≡ ltb 0 w && eqb r m → c ≡ cond (eqb clean i && not b) (i + 1) clean → Walked text new-heads new next (i + 1) r (n + k) c
   unfolding after
   walked_next {new-heads} {new} {r} {w} {k} {next} {c} {b} N q p d f =
@@ -126,7 +127,7 @@ module _ (text heads table : List ℕ) (at i m n clean : ℕ) (W : Walked text h
             (ap (λ (x : ℕ). cond (eqb clean i) (i + x) clean) (sym split) ∙ W.clear));
       }
 
-module _ (text heads table : List ℕ) (at i m n clean : ℕ) (W : Walked text heads table at i m n clean) (h : length text ≤ at) where
+module _ (text heads : List ℕ) (table : List Entry) (at i m n clean : ℕ) (W : Walked text heads table at i m n clean) (h : length text ≤ at) where
   pub walked_all : Collected text heads table m clean
   walked_all =
       let z = lines_end text at h in

@@ -19,6 +19,7 @@ use Rattle.model.proofs.Overwrites.{sets_append}
 use Rattle.text.proofs.StoreLaws.{kept_fits}
 use Rattle.std.specs.Prelude.{Result, Ok, Err}
 use Rattle.model.specs.declared.Refusal.{Refusal}
+use Rattle.published.specs.declared.labels.Entry.{Entry}
 use Rattle.published.specs.declared.instructions.Instruction.{Instruction}
 use Rattle.std.specs.Prelude.{Option as Broken}
 use Rattle.std.specs.Result.{result_err}
@@ -176,13 +177,13 @@ module _ (text : List ℕ) where
     refused_converts r k e q = record { answer = e ∙ q; stored = λ j p. absurd (never_counted (sym e ∙ p)) }
 
 -- what was read with the labels of the table
-pub read_told : (text table : List ℕ) (m : ℕ) (code b : List ℕ) (x : Parsed) → (seen_from none_seen (text_lines text)).labels ≡ entries text table m → b ≡ body_of code
+pub read_told : (text : List ℕ) (table : List Entry) (m : ℕ) (code b : List ℕ) (x : Parsed) → (seen_from none_seen (text_lines text)).labels ≡ entries text table m → b ≡ body_of code
     → x ≡ instruction_parsed (seen_from none_seen (text_lines text)).count (entries text table m) (words b)
     → x ≡ instruction_parsed (seen_from none_seen (text_lines text)).count (seen_from none_seen (text_lines text)).labels (words (body_of code))
 read_told text table m code b x l p e = e ∙ ap₂ (λ (ls : List Label) (y : List ℕ). instruction_parsed (seen_from none_seen (text_lines text)).count ls (words y)) (sym l) p
 
 -- what the first pass found is what is seen of the whole text
-module _ (text heads table : List ℕ) (labels clean : ℕ) (C : Collected text heads table labels clean) where
+module _ (text heads : List ℕ) (table : List Entry) (labels clean : ℕ) (C : Collected text heads table labels clean) where
   pub all_counted : (seen_from none_seen (text_lines text)).count ≡ C.count
   all_counted = ap (λ (s : Seen). s.count) (sym C.seen)
 

@@ -11,6 +11,9 @@ use lib.Dec.{eqb}
 use borrow.Author.Tests.{eq-eqb, ne_eqb, lt-leb, lt-ltb}
 use Rattle.std.specs.Prelude.{Result, Ok, Err}
 use Rattle.model.specs.declared.Refusal.{Refusal}
+use Rattle.model.specs.declared.Condition.{Condition}
+use Rattle.text.specs.declared.Stored.{Stored}
+use Rattle.text.specs.Lines.{numbers_of, meaning}
 use Rattle.model.specs.declared.Line.{Line}
 use Rattle.model.specs.Limits.{line_width, max_accepted, max_lines}
 use Rattle.model.specs.Lines.{AllCorrect}
@@ -60,10 +63,15 @@ module _ (text rest : List ℕ) (n : ℕ) (R : Through text rest n) where
     through_stop h k e =
         sym (ap (λ (x : Reading). x.answer) (turn h ∙ ap (λ (x : Parsed). then_reads x n (reading (max_lines - (n + 1)) (n + 1) max_lines (past newline rest))) e)) ∙ R.answer
 
-    pub through_next : n < max_lines → (ns after : List ℕ) → front_line rest ≡ numbers ns → after ≡ past newline rest → Through text after (n + 1)
+    through_next : n < max_lines → (ns after : List ℕ) → front_line rest ≡ numbers ns → after ≡ past newline rest → Through text after (n + 1)
     through_next h ns after e p =
         let t = turn h ∙ ap (λ (x : Parsed). then_reads x n (reading (max_lines - (n + 1)) (n + 1) max_lines (past newline rest))) e in
         record { few = omega arith; answer = rw p (ap (λ (x : Reading). x.answer) (sym t) ∙ R.answer) }
+
+    -- the same of a line as the code answers it
+    pub through_read : n < max_lines → (r : Result Stored Condition) → ((d : Condition) → r ≡ Err d → ⊥) → (after : List ℕ) → front_line rest ≡ meaning r → after ≡ past newline rest → Through text after (n + 1)
+    through_read h (Ok l) right after e p = through_next h (numbers_of l) after e p
+    through_read h (Err d) right after e p = absurd (right d refl)
 
 -- ---- a text that is read whole, and not into a store of 1,024 lines, has more lines
 

@@ -1,6 +1,6 @@
 -- Printing the published text: spaces before parts that are there, the targets used told beforehand, and line after line, what is left after the
 -- bytes so far always gives the whole text. Assumes nothing.
-use Prim.Native.Nat.{ℕ, suc, ◌+◌, ◌-◌, ◌*◌, ◌≤◌, ◌<◌, ◌/◌, ◌%◌}
+use Prim.Native.Nat.{ℕ, zero, suc, ◌+◌, ◌-◌, ◌*◌, ◌≤◌, ◌<◌, ◌/◌, ◌%◌}
 use mathlib.Core.Bool.{Bool, true, false, cond, ◌&&◌, ◌||◌, false≢true}
 use mathlib.Core.Path.{◌≡◌, refl, sym, ap, ◌∙◌}
 use mathlib.Core.List.{List, [], ◌∷◌, ◌++◌, append_assoc}
@@ -19,7 +19,7 @@ use Rattle.model.specs.declared.Target.TheVariants.{Empty as NoTarget, Line as T
 use Rattle.model.specs.declared.Line.{Line}
 use Rattle.model.specs.Limits.{line_width, max_accepted}
 use Rattle.model.specs.Answers.{report, refused, counted, outcome, at_front}
-use Rattle.model.specs.Stored.{literals, registers, cells, publics, sensitives, tables, operand_of, target_of, line_at, line_of, at_line, line_count, lines, lines_from}
+use Rattle.model.specs.Stored.{literals, registers, cells, publics, sensitives, tables, operand_of, target_of, line_at, line_count, lines, lines_from}
 use Rattle.model.specs.Text.{newline, comma, decimal, spell_opcode, fitted}
 use Rattle.model.specs.Marks.{mark_check}
 use Rattle.model.proofs.TestLaws.{below, or_false, and_both, holds}
@@ -32,10 +32,9 @@ use Rattle.printing.specs.Writing.{Wrote}
 use Rattle.printing.proofs.WroteLaws.{wrote_sets}
 use Rattle.published.specs.Published.{space, colon}
 use Rattle.published.specs.Published.{based, spell_published, line_name, spell_target_name}
-use Rattle.published.specs.Published.{spaced, instruction_text, goes_to, is_target, label_line, published_from, published, bit}
+use Rattle.published.specs.Published.{spaced, instruction_text, goes_to, is_target, label_line, published_from, published}
 use Rattle.published.specs.Printing.{marked_by, Used, publish_outcome}
 use Rattle.printing.proofs.PrintLaws.{minus_0, one_less}
-use Rattle.published.proofs.TableLaws.{zeros}
 use Rattle.published.proofs.OperandSpelling.{number_spelled, published-filled}
 
 -- ---- operands
@@ -93,85 +92,77 @@ or_true true = refl
 or_true false = refl
 
 -- the targets of the lines before i are told
-pub record Marking (p used : List ℕ) (n i : ℕ) : Type 0 where
+pub record Marking (p : List ℕ) (used : List Bool) (n i : ℕ) : Type 0 where
   pub few : i ≤ n
   pub long : length used ≡ max_accepted + 1
-  pub marks : ℕ → Bool
-  pub are : (j : ℕ) → j ≤ max_accepted → get_or used j 0 ≡ bit (marks j)
-  pub left : (j : ℕ) → (marks j || is_target (lines_from p i (n - i)) j) ≡ is_target (lines_from p 0 n) j
+  pub left : (j : ℕ) → j ≤ max_accepted → (get_or used j false || is_target (lines_from p i (n - i)) j) ≡ is_target (lines_from p 0 n) j
 
-pub marking_none : (p used : List ℕ) (n : ℕ) → length used ≡ max_accepted + 1 → Used [] used → Marking p used n 0
+pub marking_none : (p : List ℕ) (used : List Bool) (n : ℕ) → length used ≡ max_accepted + 1 → Used [] used → Marking p used n 0
 unfolding is_target
-marking_none p used n l h = record { few = omega arith; long = l; marks = λ j. false; are = h; left = λ j. ap (λ (k : ℕ). is_target (lines_from p 0 k) j) (minus_0 n) }
+marking_none p used n l h = record { few = omega arith; long = l; left = λ j g. rw (h j g) (ap (λ (k : ℕ). is_target (lines_from p 0 k) j) (minus_0 n)) }
 
-module _ (p used : List ℕ) (n i t : ℕ) (M : Marking p used n i) (h : i < n) (e : t ≡ get_or p (line_width * i + 5) 0) where
+module _ (p : List ℕ) (used : List Bool) (n i t : ℕ) (M : Marking p used n i) (h : i < n) (e : t ≡ get_or p (line_width * i + 5) 0) where
   target_step : (j : ℕ) → is_target (lines_from p i (n - i)) j ≡ (eqb t (j + 1) || is_target (lines_from p (i + 1) (n - (i + 1))) j)
   unfolding is_target lines_from
   target_step j = rw (one_less n i h, goes j (get_or p (line_width * i + 5) 0), ← e)
 
-  marked : (new : List ℕ) → length new ≡ length used → ((j : ℕ) → j ≤ max_accepted → get_or new j 0 ≡ bit (M.marks j || eqb t (j + 1))) → Marking p new n (i + 1)
+  marked : (new : List Bool) → length new ≡ length used → ((j : ℕ) → j ≤ max_accepted → get_or new j false ≡ (get_or used j false || eqb t (j + 1))) → Marking p new n (i + 1)
   marked new long q =
       record {
         few = omega arith;
         long = long ∙ M.long;
-        marks = λ j. M.marks j || eqb t (j + 1);
-        are = q;
-        left = λ j. or_more (M.marks j) (eqb t (j + 1)) (is_target (lines_from p (i + 1) (n - (i + 1))) j) ∙ ap (λ (x : Bool). M.marks j || x) (sym (target_step j)) ∙ M.left j;
+        left = λ j g. ap (λ (x : Bool). x || is_target (lines_from p (i + 1) (n - (i + 1))) j) (q j g)
+            ∙ or_more (get_or used j false) (eqb t (j + 1)) (is_target (lines_from p (i + 1) (n - (i + 1))) j)
+            ∙ ap (λ (x : Bool). get_or used j false || x) (sym (target_step j)) ∙ M.left j g;
       }
 
   -- a target is told
-  marking_on : (ltb 0 t && leb t (length used)) ≡ true → Marking p (set used (t - 1) 1) n (i + 1)
+  marking_on : (ltb 0 t && leb t (length used)) ≡ true → Marking p (set used (t - 1) true) n (i + 1)
   marking_on q =
       let w = and_both (ltb 0 t) (leb t (length used)) (holds q) in
       let pos : 0 < t = ltb→lt 0 t w.0 in
       let top : t ≤ length used = leb→le t (length used) w.1 in
-      marked (set used (t - 1) 1) (length-set used (t - 1) 1) (λ j g. by j g pos top (eqb t (j + 1)) refl)
+      marked (set used (t - 1) true) (length-set used (t - 1) true) (λ j g. by j pos top (eqb t (j + 1)) refl)
     where
-      by : (j : ℕ) → j ≤ max_accepted → 0 < t → t ≤ length used → (b : Bool) → eqb t (j + 1) ≡ b → get_or (set used (t - 1) 1) j 0 ≡ bit (M.marks j || eqb t (j + 1))
-      by j g pos top true z =
+      by : (j : ℕ) → 0 < t → t ≤ length used → (b : Bool) → eqb t (j + 1) ≡ b → get_or (set used (t - 1) true) j false ≡ (get_or used j false || eqb t (j + 1))
+      by j pos top true z =
           let y : j ≡ t - 1 = omega (arith, eqb-true t (j + 1) z) in
-          rw (z, or_true (M.marks j)) (ap (λ (k : ℕ). get_or (set used (t - 1) 1) k 0) y ∙ get_or-set_same used (t - 1) 1 0 (omega arith))
-      by j g pos top false z =
-          rw (z, or_false (M.marks j)) (get_or-set_other used (t - 1) j 1 0 (λ y. eqb-false t (j + 1) z (omega arith)) ∙ M.are j g)
+          rw (z, or_true (get_or used j false)) (ap (λ (k : ℕ). get_or (set used (t - 1) true) k false) y ∙ get_or-set_same used (t - 1) true false (omega arith))
+      by j pos top false z =
+          rw (z, or_false (get_or used j false)) (get_or-set_other used (t - 1) j true false (λ y. eqb-false t (j + 1) z (omega arith)))
 
   -- there is none, or none that an accepted program has
   marking_off : (ltb 0 t && leb t (length used)) ≡ false → Marking p used n (i + 1)
   marking_off q = marked used refl (λ j g. by j g (eqb t (j + 1)) refl)
     where
-      by : (j : ℕ) → j ≤ max_accepted → (b : Bool) → eqb t (j + 1) ≡ b → get_or used j 0 ≡ bit (M.marks j || eqb t (j + 1))
+      by : (j : ℕ) → j ≤ max_accepted → (b : Bool) → eqb t (j + 1) ≡ b → get_or used j false ≡ (get_or used j false || eqb t (j + 1))
       by j g true z =
           let y : t ≡ j + 1 = eqb-true t (j + 1) z in
           let x : (ltb 0 t && leb t (length used)) ≡ true = rw (lt-ltb 0 t (omega arith), le-leb t (length used) (omega (arith, M.long))) in
           absurd (false≢true (sym q ∙ x))
-      by j g false z = rw (z, or_false (M.marks j)) (M.are j g)
+      by j g false z = rw (z, or_false (get_or used j false))
 
 -- none is told yet
-pub none_used : (n : ℕ) → Used [] (replicate n 0)
+pub none_used : (n : ℕ) → Used [] (replicate n false)
 unfolding is_target
-none_used n i h = zeros n i
+none_used zero i h = refl
+none_used (suc n) zero h = refl
+none_used (suc n) (suc i) h = none_used n i (omega arith)
 
 -- a target by its number, or not
-pub marking_next : (p used : List ℕ) (n i t : ℕ) → Marking p used n i → i < n → t ≡ get_or p (line_width * i + 5) 0 → {new : List ℕ} → new ≡ marked_by t used → Marking p new n (i + 1)
+pub marking_next : (p : List ℕ) (used : List Bool) (n i t : ℕ) → Marking p used n i → i < n → t ≡ get_or p (line_width * i + 5) 0 → {new : List Bool} → new ≡ marked_by t used → Marking p new n (i + 1)
 unfolding marked_by
 marking_next p used n i t M h e {new} q = rw q (by (ltb 0 t && leb t (length used)) refl)
   where
-    by : (x : Bool) → (ltb 0 t && leb t (length used)) ≡ x → Marking p (cond x (set used (t - 1) 1) used) n (i + 1)
+    by : (x : Bool) → (ltb 0 t && leb t (length used)) ≡ x → Marking p (cond x (set used (t - 1) true) used) n (i + 1)
     by true z = marking_on p used n i t M h e z
     by false z = marking_off p used n i t M h e z
 
-pub marking_all : (p used : List ℕ) (n i : ℕ) → Marking p used n i → n ≤ i → Used (lines_from p 0 n) used
+pub marking_all : (p : List ℕ) (used : List Bool) (n i : ℕ) → Marking p used n i → n ≤ i → Used (lines_from p 0 n) used
 unfolding is_target lines_from
 marking_all p used n i M h j g =
     let z : n - i ≡ 0 = omega arith in
-    M.are j g ∙ ap bit (sym (or_false (M.marks j)) ∙ ap (λ (k : ℕ). M.marks j || is_target (lines_from p i k) j) (sym z) ∙ M.left j)
-
--- what is told of a line
-pub used_is : (p : List Line) (used : List ℕ) (i : ℕ) → Used p used → i ≤ max_accepted → eqb (get_or used i 0) 1 ≡ is_target p i
-used_is p used i u h = ap (λ (k : ℕ). eqb k 1) (u i h) ∙ by (is_target p i)
-  where
-    by : (t : Bool) → eqb (bit t) 1 ≡ t
-    by true = refl
-    by false = refl
+    sym (or_false (get_or used j false)) ∙ ap (λ (k : ℕ). get_or used j false || is_target (lines_from p i k) j) (sym z) ∙ M.left j g
 
 -- ---- line after line
 
@@ -206,11 +197,6 @@ text_next p n i h = ap (published_from (lines_from p 0 n) i) (lines_next p n i h
 text_end : (p : List ℕ) (n : ℕ) → text_from p n n ≡ label_line (is_target (lines_from p 0 n) n) n
 unfolding published_from
 text_end p n = ap (published_from (lines_from p 0 n) n) (lines_end p n n (omega arith))
-
--- the mark is not spelled
-pub any_mark : (p : List ℕ) (i : ℕ) → instruction_text (at_line (λ m. line_of 0) p i) ++ (newline ∷ []) ≡ instruction_text (line_at p i) ++ (newline ∷ [])
-unfolding instruction_text
-any_mark p i = refl
 
 -- i of n lines are printed, up to a place
 pub record Printed (p old out : List ℕ) (n at i : ℕ) : Type 0 where

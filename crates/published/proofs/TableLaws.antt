@@ -15,9 +15,10 @@ use Rattle.text.specs.Fields.{found}
 use Rattle.model.specs.Text.{same_bytes}
 use Rattle.model.proofs.TestLaws.{and_both, holds, below}
 use Rattle.model.proofs.SpellingLaws.{same_bytes_lem}
+use Rattle.published.specs.declared.labels.Entry.{Entry}
 use Rattle.published.specs.Published.{Label, find, is_missing, is_name, max_labels, is_within}
 use Rattle.std.specs.Prelude.{Option as Found, Some, None, is_some}
-use Rattle.published.specs.Table.{hash_from, buckets, bucket_of, entry_width, entry_at, entries, last_in, Linked, Added}
+use Rattle.published.specs.Table.{hash_from, buckets, bucket_of, blank, label_of, entry_at, entries, last_in, Linked, Added}
 
 -- ---- an empty table
 
@@ -42,12 +43,12 @@ bucket_is name last h i g e = (ap (λ (k : ℕ). k % buckets) (sym (hash_none la
 
 -- ---- clauses
 
-pub entries-length : (text table : List ℕ) (m : ℕ) → length (entries text table m) ≡ m
+pub entries-length : (text : List ℕ) (table : List Entry) (m : ℕ) → length (entries text table m) ≡ m
 unfolding entries
 entries-length text table zero = refl
 entries-length text table (suc m) = ap suc (entries-length text table m)
 
-module _ (text table : List ℕ) where
+module _ (text : List ℕ) (table : List Entry) where
   abbrev name_at : ℕ → List ℕ
   name_at k = (entry_at text table k).name
 
@@ -101,21 +102,21 @@ module _ (text table : List ℕ) where
 -- ---- looking a name up, from label to label
 
 -- a name is a part of the text
-pub entry_name : (text table : List ℕ) (k : ℕ) → take (get_or table (entry_width * k + 1) 0) (drop (get_or table (entry_width * k) 0) text) ≡ (entry_at text table k).name
-unfolding entry_at
+pub entry_name : (text : List ℕ) (table : List Entry) (k : ℕ) → take (get_or table k blank).size (drop (get_or table k blank).start text) ≡ (entry_at text table k).name
+unfolding label_of
 entry_name text table k = refl
 
-entry_line : (text table : List ℕ) (k : ℕ) → get_or table (entry_width * k + 2) 0 ≡ (entry_at text table k).line
-unfolding entry_at
+entry_line : (text : List ℕ) (table : List Entry) (k : ℕ) → (get_or table k blank).line ≡ (entry_at text table k).line
+unfolding label_of
 entry_line text table k = refl
 
 -- the labels from the k-th down, as all
-pub record Sought (text table : List ℕ) (m : ℕ) (name : List ℕ) (k : ℕ) : Type 0 where
+pub record Sought (text : List ℕ) (table : List Entry) (m : ℕ) (name : List ℕ) (k : ℕ) : Type 0 where
   pub few : k ≤ m
   pub there : 0 < k → bucket_of (entry_at text table (k - 1)).name ≡ bucket_of name
   pub same : find name (entries text table k) ≡ find name (entries text table m)
 
-module _ (text heads table : List ℕ) (m : ℕ) (name : List ℕ) (L : Linked text heads table m) where
+module _ (text heads : List ℕ) (table : List Entry) (m : ℕ) (name : List ℕ) (L : Linked text heads table m) where
   pub sought_first : (h : ℕ) → h ≡ bucket_of name → h < buckets → Sought text table m name (get_or heads h 0)
   sought_first h e g =
       let q : get_or heads h 0 ≡ last_in text table (bucket_of name) m = L.last h g ∙ ap (λ (j : ℕ). last_in text table j m) e in
@@ -126,17 +127,17 @@ module _ (text heads table : List ℕ) (m : ℕ) (name : List ℕ) (L : Linked t
     step : find name (entries text table k) ≡ cond (same_bytes (entry_at text table (k - 1)).name name) (some (entry_at text table (k - 1)).line) (find name (entries text table (k - 1)))
     step = let z : k ≡ suc (k - 1) = omega arith in ap (λ (j : ℕ). find name (entries text table j)) z ∙ find_suc text table name (k - 1)
 
-    pub sought_there : same_bytes (entry_at text table (k - 1)).name name ≡ true → some (get_or table (entry_width * (k - 1) + 2) 0) ≡ find name (entries text table m)
+    pub sought_there : same_bytes (entry_at text table (k - 1)).name name ≡ true → some ((get_or table (k - 1) blank).line) ≡ find name (entries text table m)
     sought_there e = ap some (entry_line text table (k - 1)) ∙ sym (step ∙ rw e) ∙ s.same
 
-    pub sought_next : same_bytes (entry_at text table (k - 1)).name name ≡ false → Sought text table m name (get_or table (entry_width * (k - 1) + 3) 0)
+    pub sought_next : same_bytes (entry_at text table (k - 1)).name name ≡ false → Sought text table m name ((get_or table (k - 1) blank).before)
     sought_next e =
         let l : k - 1 < m = omega (arith, s.few) in
-        let q : get_or table (entry_width * (k - 1) + 3) 0 ≡ last_in text table (bucket_of name) (k - 1) = L.before (k - 1) l ∙ ap (λ (h : ℕ). last_in text table h (k - 1)) (s.there g) in
+        let q : (get_or table (k - 1) blank).before ≡ last_in text table (bucket_of name) (k - 1) = L.before (k - 1) l ∙ ap (λ (h : ℕ). last_in text table h (k - 1)) (s.there g) in
         let w = last_is text table (bucket_of name) (k - 1) in
         rw q (record { few = omega (arith, w.few, l); there = w.there; same = find_last text table name (k - 1) ∙ sym (step ∙ rw e) ∙ s.same })
 
-    pub sought_less : get_or table (entry_width * (k - 1) + 3) 0 < k
+    pub sought_less : (get_or table (k - 1) blank).before < k
     sought_less =
         let l : k - 1 < m = omega (arith, s.few) in
         omega (arith, L.before (k - 1) l, (last_is text table (bucket_of (entry_at text table (k - 1)).name) (k - 1)).few)
@@ -147,57 +148,26 @@ module _ (text heads table : List ℕ) (m : ℕ) (name : List ℕ) (L : Linked t
 
 -- ---- a label more
 
-abbrev pub stored : List ℕ → ℕ → ℕ → ℕ → ℕ → ℕ → List ℕ
-stored t k a n line next = set (set (set (set t k a) (k + 1) n) (k + 2) line) (k + 3) next
+abbrev pub entry : ℕ → ℕ → ℕ → ℕ → Entry
+entry a n line next = record { start = a; size = n; line = line; before = next }
 
-module _ (t : List ℕ) (m a n line next : ℕ) (h : entry_width * m + 4 ≤ length t) where
-  abbrev k : ℕ
-  k = entry_width * m
+module _ (t : List Entry) (m a n line next : ℕ) (h : m < length t) where
+  abbrev new : List Entry
+  new = set t m (entry a n line next)
 
-  abbrev new : List ℕ
-  new = stored t k a n line next
+  kept_below : (j : ℕ) → j < m → get_or new j blank ≡ get_or t j blank
+  kept_below j g = get_or-set_other t m j (entry a n line next) blank (λ e. omega arith)
 
-  l1 : length (set t k a) ≡ length t
-  l1 = length-set t k a
-
-  l2 : length (set (set t k a) (k + 1) n) ≡ length t
-  l2 = length-set (set t k a) (k + 1) n ∙ l1
-
-  l3 : length (set (set (set t k a) (k + 1) n) (k + 2) line) ≡ length t
-  l3 = length-set (set (set t k a) (k + 1) n) (k + 2) line ∙ l2
-
-  pub stored-length : length new ≡ length t
-  stored-length = length-set (set (set (set t k a) (k + 1) n) (k + 2) line) (k + 3) next ∙ l3
-
-  kept_below : (j : ℕ) → j < k → get_or new j 0 ≡ get_or t j 0
-  kept_below j g =
-      get_or-set_other (set (set (set t k a) (k + 1) n) (k + 2) line) (k + 3) j next 0 (λ e. omega arith) ∙ get_or-set_other (set (set t k a) (k + 1) n) (k + 2) j line 0 (λ e. omega arith)
-      ∙ get_or-set_other (set t k a) (k + 1) j n 0 (λ e. omega arith) ∙ get_or-set_other t k j a 0 (λ e. omega arith)
-
-  kept-start : get_or new k 0 ≡ a
-  kept-start =
-      get_or-set_other (set (set (set t k a) (k + 1) n) (k + 2) line) (k + 3) k next 0 (λ e. omega arith) ∙ get_or-set_other (set (set t k a) (k + 1) n) (k + 2) k line 0 (λ e. omega arith)
-      ∙ get_or-set_other (set t k a) (k + 1) k n 0 (λ e. omega arith) ∙ get_or-set_same t k a 0 (omega arith)
-
-  kept-size : get_or new (k + 1) 0 ≡ n
-  kept-size =
-      get_or-set_other (set (set (set t k a) (k + 1) n) (k + 2) line) (k + 3) (k + 1) next 0 (λ e. omega arith) ∙ get_or-set_other (set (set t k a) (k + 1) n) (k + 2) (k + 1) line 0 (λ e. omega arith)
-      ∙ get_or-set_same (set t k a) (k + 1) n 0 (omega (arith, l1))
-
-  kept_line : get_or new (k + 2) 0 ≡ line
-  kept_line = get_or-set_other (set (set (set t k a) (k + 1) n) (k + 2) line) (k + 3) (k + 2) next 0 (λ e. omega arith) ∙ get_or-set_same (set (set t k a) (k + 1) n) (k + 2) line 0 (omega (arith, l2))
-
-  kept_next : get_or new (k + 3) 0 ≡ next
-  kept_next = get_or-set_same (set (set (set t k a) (k + 1) n) (k + 2) line) (k + 3) next 0 (omega (arith, l3))
+  kept : get_or new m blank ≡ entry a n line next
+  kept = get_or-set_same t m (entry a n line next) blank h
 
   module _ (text : List ℕ) where
     entry_new : entry_at text new m ≡ record { name = take n (drop a text); line = line }
-    unfolding entry_at
-    entry_new = rw (kept-start, kept-size, kept_line)
+    unfolding label_of
+    entry_new = rw kept
 
     entry_old : (j : ℕ) → j < m → entry_at text new j ≡ entry_at text t j
-    unfolding entry_at
-    entry_old j g = rw (kept_below (entry_width * j) (omega arith), kept_below (entry_width * j + 1) (omega arith), kept_below (entry_width * j + 2) (omega arith))
+    entry_old j g = ap (label_of text) (kept_below j g)
 
     entries_old : (j : ℕ) → j ≤ m → entries text new j ≡ entries text t j
     unfolding entries
@@ -238,7 +208,7 @@ few_new labels name e =
     let w = and_both (is_name name && is_missing (find name labels)) (ltb (length labels) max_labels) (holds e) in
     ltb→lt (length labels) max_labels w.1
 
-module _ (text heads table : List ℕ) (m : ℕ) (L : Linked text heads table m) (a n line : ℕ) where
+module _ (text heads : List ℕ) (table : List Entry) (m : ℕ) (L : Linked text heads table m) (a n line : ℕ) where
   abbrev name : List ℕ
   name = take n (drop a text)
 
@@ -249,14 +219,14 @@ module _ (text heads table : List ℕ) (m : ℕ) (L : Linked text heads table m)
     pub few_more : m < max_labels
     few_more = omega (arith, few_new (entries text table m) name e, entries-length text table m)
 
-    pub room_more : entry_width * m + 4 ≤ length table
+    pub room_more : m < length table
     room_more = omega (arith, few_more, L.room)
 
     abbrev next : ℕ
     next = get_or heads (bucket_of name) 0
 
-    abbrev after : List ℕ
-    after = stored table (entry_width * m) a n line next
+    abbrev after : List Entry
+    after = set table m (entry a n line next)
 
     heads_new : (h : ℕ) → h < buckets → get_or (set heads (bucket_of name) (suc m)) h 0 ≡ last_in text after h (suc m)
     heads_new h g = by (eqb (bucket_of name) h) refl ∙ sym (last_new table m a n line next room_more text h)
@@ -270,13 +240,13 @@ module _ (text heads table : List ℕ) (m : ℕ) (L : Linked text heads table m)
             never : ◌≡◌ {A = Bool} true false → ⊥
             never y = let x : ◌≡◌ {A = ℕ} 1 0 = ap (λ (t : Bool). cond t 1 0) y in omega arith
 
-    nexts_new : (in-range : bucket_of name < buckets) (k : ℕ) → k < suc m → get_or after (entry_width * k + 3) 0 ≡ last_in text after (bucket_of (entry_at text after k).name) k
+    nexts_new : (in-range : bucket_of name < buckets) (k : ℕ) → k < suc m → (get_or after k blank).before ≡ last_in text after (bucket_of (entry_at text after k).name) k
     nexts_new in-range k g =
         below k m
-        (λ l. kept_below table m a n line next room_more (entry_width * k + 3) (omega arith) ∙ L.before k l
+        (λ l. ap (λ (x : Entry). x.before) (kept_below table m a n line next room_more k l) ∙ L.before k l
         ∙ sym (ap (λ (x : Label). last_in text after (bucket_of x.name) k) (entry_old table m a n line next room_more text k l) ∙ last_old table m a n line next room_more text _ k (omega arith)))
         (λ l. let z : k ≡ m = omega arith in
-        rw z (kept_next table m a n line next room_more ∙ L.last (bucket_of name) in-range
+        rw z (ap (λ (x : Entry). x.before) (kept table m a n line next room_more) ∙ L.last (bucket_of name) in-range
         ∙ sym (ap (λ (x : Label). last_in text after (bucket_of x.name) m) (entry_new table m a n line next room_more text) ∙ last_old table m a n line next room_more text _ m (omega arith))))
 
     added_new : bucket_of name < buckets → Added text table (set heads (bucket_of name) (suc m)) after m (suc m) name line
@@ -286,7 +256,7 @@ module _ (text heads table : List ℕ) (m : ℕ) (L : Linked text heads table m)
               record {
                 few = few_more;
                 head_room = length-set heads (bucket_of name) (suc m) ∙ L.head_room;
-                room = stored-length table m a n line next room_more ∙ L.room;
+                room = length-set table m (entry a n line next) ∙ L.room;
                 last = heads_new;
                 before = nexts_new in-range;
               };
@@ -294,7 +264,7 @@ module _ (text heads table : List ℕ) (m : ℕ) (L : Linked text heads table m)
           counts = rw e;
         }
 
-    pub added : (h : ℕ) → h ≡ bucket_of name → h < buckets → Added text table (set heads h (m + 1)) (stored table (entry_width * m) a n line (get_or heads h 0)) m (m + 1) name line
+    pub added : (h : ℕ) → h ≡ bucket_of name → h < buckets → Added text table (set heads h (m + 1)) (set table m (entry a n line (get_or heads h 0))) m (m + 1) name line
     added h q g =
         let one : m + 1 ≡ suc m = omega arith in
         rw (q, one) (added_new (subst (λ (k : ℕ). k < buckets) q g))

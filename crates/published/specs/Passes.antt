@@ -7,8 +7,10 @@ use Rattle.model.specs.Answers.{counted, number_of, report}
 use Rattle.model.specs.Stored as stored
 use Rattle.model.specs.declared.Condition.{Condition}
 use Rattle.model.specs.declared.Refusal.{Refusal}
+use Rattle.published.specs.declared.labels.Entry.{Entry}
+use Rattle.published.specs.declared.labels.Labels.{Labels}
 use Rattle.published.specs.declared.instructions.Instruction.{Instruction}
-use Rattle.published.specs.Published.{words, TextLine, Seen, none_seen, labels_after, after, seen_from, label_wrong, parsed_line, text_lines, take_in_check}
+use Rattle.published.specs.Published.{Label, words, TextLine, Seen, none_seen, labels_after, after, seen_from, label_wrong, parsed_line, text_lines, take_in_check}
 use Rattle.published.specs.Reading.{trimmed, label_size}
 use Rattle.published.specs.Table.{entries, Linked}
 
@@ -28,8 +30,12 @@ meaning (Err c) = stored.wrong (number_of c)
 
 -- ---- the first pass
 
+-- the labels that are kept, the last of them first
+abbrev pub labels_of : Labels → List Label
+labels_of l = entries l.text.now l.table l.count
+
 -- what is seen of a text, as the code holds it
-abbrev pub seen_in : List ℕ → List ℕ → ℕ → ℕ → Seen
+abbrev pub seen_in : List ℕ → List Entry → ℕ → ℕ → Seen
 seen_in text table m n = record { count = n; labels = entries text table m }
 
 -- how many lines stand before the first wrong label
@@ -38,19 +44,19 @@ clean_from seen [] = 0
 clean_from seen (l ∷ ls) = cond (label_wrong seen.labels l.parts) 0 (suc (clean_from (after seen l) ls))
 
 -- the table after the label of w bytes that a line's parts begin with. A label that is not within the limits adds none
-pub record Named (text old heads table : List ℕ) (m r w : ℕ) (parts : List (List ℕ)) (n : ℕ) : Type 0 where
+pub record Named (text : List ℕ) (old : List Entry) (heads : List ℕ) (table : List Entry) (m r w : ℕ) (parts : List (List ℕ)) (n : ℕ) : Type 0 where
   pub linked : Linked text heads table r
   pub labels : entries text table r ≡ labels_after (entries text old m) parts n
   pub wrong : label_wrong (entries text old m) parts ≡ ltb 0 w && eqb r m
 
 -- the same of a line whose parts begin at a place of the text, however far they go
-abbrev pub NamedAt : List ℕ → List ℕ → List ℕ → List ℕ → ℕ → ℕ → ℕ → ℕ → ℕ → Type 0
+abbrev pub NamedAt : List ℕ → List Entry → List ℕ → List Entry → ℕ → ℕ → ℕ → ℕ → ℕ → Type 0
 NamedAt text old heads table start m r w n =
     (size : ℕ) → w ≡ label_size (take size (drop start text)) → w ≤ length (take size (drop start text)) → trimmed (take size (drop start text)) ≡ take size (drop start text)
     → Named text old heads table m r w (words (take size (drop start text))) n
 
 -- the labels of the whole text, how many lines it counts, and how many stand before the first wrong label
-pub record Collected (text heads table : List ℕ) (labels clean : ℕ) : Type 0 where
+pub record Collected (text heads : List ℕ) (table : List Entry) (labels clean : ℕ) : Type 0 where
   pub linked : Linked text heads table labels
   pub count : ℕ
   pub seen : seen_in text table labels count ≡ seen_from none_seen (text_lines text)

@@ -4,8 +4,8 @@ ghost use Rattle.model.specs.Lines.{fills};
 ghost use Rattle.model.specs.Stored.{opcode_of, opcodes};
 ghost use Rattle.published.specs.Published.{words, mark_for, or_missing, operands_parsed, parts_parsed, instruction_parsed};
 ghost use Rattle.published.specs.Reading.{trimmed, parts_there};
-ghost use Rattle.published.specs.Table.{entries, Low};
-ghost use Rattle.published.specs.Passes.{target_number, meaning};
+ghost use Rattle.published.specs.Table.{Low};
+ghost use Rattle.published.specs.Passes.{labels_of, target_number, meaning};
 
 use crate::labels::{Labels, all_alphanumeric, bucket};
 use crate::operands::operand;
@@ -66,7 +66,7 @@ fn targeted(
     b: &[u8],
     name: &[u8],
 ) -> Result<Instruction, Condition>
-    ensures { (n : ℕ) → Low n (entries labels.now.text.now labels.now.table labels.now.count) → meaning result ≡ or_missing true (entries labels.now.text.now labels.now.table labels.now.count) name.now (operands_parsed n o [] a.now b.now) }
+    ensures { (n : ℕ) → Low n (labels_of labels.now) → meaning result ≡ or_missing true (labels_of labels.now) name.now (operands_parsed n o [] a.now b.now) }
 {
     if !all_alphanumeric(name) {
         return Err(Condition::NoCounterpart);
@@ -97,7 +97,7 @@ fn part_count(a: usize, b: usize, c: usize, d: usize) -> usize
 // The parts after an opcode.
 fn filled(labels: &Labels, o: u16, s: &[u8]) -> Result<Instruction, Condition>
     requires { (o < opcodes) × (trimmed s.now ≡ s.now) }
-    ensures { (n : ℕ) → Low n (entries labels.now.text.now labels.now.table labels.now.count) → meaning result ≡ parts_parsed n (entries labels.now.text.now labels.now.table labels.now.count) o (fills (opcode_of o)) (words s.now) }
+    ensures { (n : ℕ) → Low n (labels_of labels.now) → meaning result ≡ parts_parsed n (labels_of labels.now) o (fills (opcode_of o)) (words s.now) }
 {
     let i = word(s);
     let s2 = after(s, i);
@@ -119,7 +119,7 @@ fn filled(labels: &Labels, o: u16, s: &[u8]) -> Result<Instruction, Condition>
 // The instruction that begins a line's rest: its opcode, then its parts.
 pub(crate) fn parse(labels: &Labels, s: &[u8]) -> Result<Instruction, Condition>
     requires { trimmed s.now ≡ s.now }
-    ensures { (n : ℕ) → Low n (entries labels.now.text.now labels.now.table labels.now.count) → meaning result ≡ instruction_parsed n (entries labels.now.text.now labels.now.table labels.now.count) (words s.now) }
+    ensures { (n : ℕ) → Low n (labels_of labels.now) → meaning result ≡ instruction_parsed n (labels_of labels.now) (words s.now) }
 {
     // A line that is not counted.
     if s.len() == 0 {

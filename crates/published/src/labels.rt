@@ -12,21 +12,33 @@ const MAX_NAME: usize = 16;
 
 const MAX_LABELS: usize = 1025;
 
-// The numbers of a label in the table: where its name begins in the text, how long it is, the line that it names, and the label before it
-// in its bucket, counted from 1.
-const ENTRY_WIDTH: usize = 4;
-
-// The numbers of the table, and the buckets, each with its last label, counted from 1.
-const TABLE_ROOM: usize = ENTRY_WIDTH * MAX_LABELS;
-
+// The buckets, each with its last label, counted from 1.
 const BUCKETS: usize = 1024;
 
-// The labels of a text, each a place of it. Labels of one bucket are linked, and `heads` has the last of each.
+// A label in the table: where its name begins in the text, how long it is, the line that it names, and the label before it in its bucket,
+// counted from 1.
+#[derive(Clone, Copy)]
+pub struct Entry {
+    pub start: usize,
+    pub size: usize,
+    pub line: usize,
+    pub before: usize,
+}
+
+const BLANK: Entry = Entry {
+    start: 0,
+    size: 0,
+    line: 0,
+    before: 0,
+};
+
+// The labels of a text, each a place of it. Labels of one bucket are linked, and `heads` has the last of each. The memory is fixed, since
+// there is no heap: `count` says how many entries hold a label, and 0 in `heads` or `before` says none, where an Option takes twice the room.
 #[derive(Drop)]
 pub struct Labels<'t> {
     pub text: &'t [u8],
     pub heads: [usize; BUCKETS],
-    pub table: [usize; TABLE_ROOM],
+    pub table: [Entry; MAX_LABELS],
     pub count: usize,
     pub ghost linked: { Linked text.now heads table count },
 }
@@ -78,23 +90,23 @@ impl<'t> Labels<'t> {
         Labels {
             text,
             heads: [0; BUCKETS],
-            table: [0; TABLE_ROOM],
+            table: [BLANK; MAX_LABELS],
             count: 0,
         }
     }
 
-    // Which line a name stands for; h is its bucket.
+    // Which line a name stands for; h is its bucket, passed so that `add`, which needs it again, works it out once.
     pub(crate) fn find(&self, name: &[u8], h: usize) -> Option<usize>
         requires { (h ≡ bucket_of name.now) × (h < buckets) }
         ensures { found result ≡ findLabel name.now (entries self.now.text.now self.now.table self.now.count) }
     {
         let mut k = self.heads[h];
         while 0 < k {
-            let at = ENTRY_WIDTH * (k - 1);
-            if part(self.text, self.table[at], self.table[at + 1]) == name {
-                return Some(self.table[at + 2]);
+            let l = self.table[k - 1];
+            if part(self.text, l.start, l.size) == name {
+                return Some(l.line);
             }
-            k = self.table[at + 3];
+            k = l.before;
         }
         None
     }
@@ -117,11 +129,12 @@ impl<'t> Labels<'t> {
         if !self.is_within(name, h) {
             return;
         }
-        let at = ENTRY_WIDTH * self.count;
-        self.table[at] = start;
-        self.table[at + 1] = size;
-        self.table[at + 2] = line;
-        self.table[at + 3] = self.heads[h];
+        self.table[self.count] = Entry {
+            start,
+            size,
+            line,
+            before: self.heads[h],
+        };
         self.count += 1;
         self.heads[h] = self.count;
     }

@@ -2,7 +2,7 @@
 ghost use Rattle.std.specs.Prelude.{◌≡◌, [], ◌∷◌, ◌++◌, ◌+◌, ◌*◌, ◌≤◌, ◌<◌, leb, length};
 ghost use Rattle.model.specs.Answers.{report, outcome};
 ghost use Rattle.model.specs.Limits.{max_accepted};
-ghost use Rattle.model.specs.Stored.{operand_of, target_of, line_of, lines_from};
+ghost use Rattle.model.specs.Stored.{operand_of, target_of, line_at, lines_from};
 ghost use Rattle.model.specs.Text.{newline};
 ghost use Rattle.printing.specs.Writing.{Wrote, printable};
 ghost use Rattle.published.specs.Published.{based, spell_published, spell_target_name, spaced, instruction_text, label_line, published_from, read_text};
@@ -15,7 +15,7 @@ use printing::{put, put_opcode, put_tagged};
 use text::cut::{beyond, find};
 use text::front_at;
 
-// A number for each line of an accepted program, and for the end.
+// A flag for each line of an accepted program, and one for the end: whether it is a target.
 const USED_ROOM: usize = MAX_ACCEPTED + 1;
 
 // `!rN,k`.
@@ -71,16 +71,16 @@ fn put_target(out: &mut [u8], at: usize, t: u16) -> usize
     put_tagged(out, a, b'L', t - 1)
 }
 
-// An instruction and its newline, whatever its mark.
-fn put_instruction(out: &mut [u8], at: usize, o: u16, d: u16, a: u16, b: u16, t: u16) -> usize
+// The instruction of a stored line, and its newline. The mark is not spelled.
+fn put_instruction(out: &mut [u8], at: usize, l: [u16; LINE_WIDTH]) -> usize
     requires { at + 53 ≤ printable }
-    ensures { Wrote out.old out.new at result (instruction_text (line_of 0 o d a b t) ++ (newline ∷ [])) 53 }
+    ensures { Wrote out.old out.new at result (instruction_text (line_at l 0) ++ (newline ∷ [])) 53 }
 {
-    let v = put_opcode(out, at, o);
-    let w = put_operand(out, v, d);
-    let x = put_operand(out, w, a);
-    let y = put_operand(out, x, b);
-    let z = put_target(out, y, t);
+    let v = put_opcode(out, at, l[1]);
+    let w = put_operand(out, v, l[2]);
+    let x = put_operand(out, w, l[3]);
+    let y = put_operand(out, x, l[4]);
+    let z = put_target(out, y, l[5]);
     put(out, z, b'\n')
 }
 
@@ -99,16 +99,16 @@ fn put_label(out: &mut [u8], at: usize, used: bool, i: u16) -> usize
 
 // Tells a target by its number, 1 more than its line. None is told for 0, and none that an accepted program has not.
 #[tactic(auto, unfolding(crate::specs::Printing::marked_by))]
-fn mark(used: &mut [u8], t: usize)
+fn mark(used: &mut [bool], t: usize)
     ensures { used.new ≡ marked_by t used.old }
 {
     if 0 < t && t <= used.len() {
-        used[t - 1] = 1;
+        used[t - 1] = true;
     }
 }
 
-// A 1 for each line that is a target of the first n lines, and for the end.
-fn mark_targets(program: &[u16], n: usize, used: &mut [u8])
+// Tells the targets of the first n lines.
+fn mark_targets(program: &[u16], n: usize, used: &mut [bool])
     requires { (length used.old ≡ max_accepted + 1) × Used [] used.old }
     ensures { Used (lines_from program.now 0 n) used.new }
 {
@@ -119,21 +119,20 @@ fn mark_targets(program: &[u16], n: usize, used: &mut [u8])
 }
 
 // The published text of the first n lines, as far as there is room, and its length.
-fn print(program: &[u16], n: usize, used: &[u8], out: &mut [u8]) -> usize
+fn print(program: &[u16], n: usize, used: &[bool], out: &mut [u8]) -> usize
     requires { (n ≤ max_accepted) × (max_accepted < length used.now) × Used (lines_from program.now 0 n) used.now }
     ensures { Wrote out.old out.new 0 result (published_from (lines_from program.now 0 n) 0 (lines_from program.now 0 n)) (61 * n + 8) }
 {
     let mut at: usize = 0;
     for i in 0..n {
-        let l = numbers_at(program, i);
-        let named = put_label(out, at, used[i] == 1, i as u16);
-        at = put_instruction(out, named, l[1], l[2], l[3], l[4], l[5]);
+        let named = put_label(out, at, used[i], i as u16);
+        at = put_instruction(out, named, numbers_at(program, i));
     }
-    put_label(out, at, used[n] == 1, n as u16)
+    put_label(out, at, used[n], n as u16)
 }
 
 // Whether that text fits a room of so many bytes: there is room for as many of the longest lines, or it is printed where there is none.
-fn fits(program: &[u16], n: usize, used: &[u8], room: usize) -> bool
+fn fits(program: &[u16], n: usize, used: &[bool], room: usize) -> bool
     requires { (n ≤ max_accepted) × (max_accepted < length used.now) × Used (lines_from program.now 0 n) used.now }
     ensures { result ≡ leb (length (published_from (lines_from program.now 0 n) 0 (lines_from program.now 0 n))) room }
 {
@@ -146,7 +145,7 @@ pub(crate) fn publish(program: &[u16], out: &mut [u8]) -> Result<usize, Refusal<
 {
     marks::check(program)?;
     let n = program.len() / LINE_WIDTH;
-    let mut used = [0u8; USED_ROOM];
+    let mut used = [false; USED_ROOM];
     mark_targets(program, n, &mut used);
     if !fits(program, n, &used, out.len()) {
         return Err(Refusal {
@@ -170,13 +169,12 @@ pub(crate) fn read_through(text: &[u8]) -> Result<u32, Refusal>
                 line: n as u16,
             });
         }
-        let got = front_at(rest, 0);
-        let Ok(_) = got else {
+        if let Err(condition) = front_at(rest, 0) {
             return Err(Refusal {
-                condition: got.unwrap_err(),
+                condition,
                 line: n as u16,
             });
-        };
+        }
         rest = beyond(rest, find(rest, b'\n'));
         n += 1;
     }

@@ -1,7 +1,7 @@
 -- What two loops keep true: the one over the values of a place, and the one over the places. Assumes nothing.
 use mathlib.Core.Path.{◌≡◌}
 use mathlib.Core.List.{List, map}
-use Prim.Native.Nat.{ℕ, suc, ◌*◌, ◌≤◌, ◌<◌}
+use Prim.Native.Nat.{ℕ, suc, ◌≤◌, ◌<◌}
 use lib.ListN.{length, get_or, drop}
 use Rattle.model.specs.Limits.{state_size}
 use Rattle.model.specs.Places.{State}
@@ -20,7 +20,6 @@ pub record Noted (vs f : List ℕ) (j : ℕ) : Type 0 where
 
 -- the first i places have their sets and first values
 pub record Took (b own : List ℕ) (s : State) (i : ℕ) : Type 0 where
-  pub long : length own ≡ set_width * state_size
-  pub long_state : length s ≡ state_size
+  pub long : length s ≡ state_size
   pub lists : (m : ℕ) → m < i → values (lists_of own) m ≡ values (sets_of b) m
   pub first_values : (m : ℕ) → m < i → get_or s m 0 ≡ get_or (values (sets_of b) m) 0 0

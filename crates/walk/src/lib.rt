@@ -3,27 +3,26 @@
 
 #![tactic(auto)]
 
-ghost use Rattle.std.specs.Prelude.{◌≡◌, [], ◌∷◌, map, ℕ, ◌*◌, ◌<◌, ◌≤◌, T, length, get_or};
-ghost use Rattle.model.specs.Limits.{state_size, line_width, max_lines};
+ghost use Rattle.std.specs.Prelude.{◌≡◌, [], ◌∷◌, map, ℕ, ◌<◌, ◌≤◌, T, length, get_or};
+ghost use Rattle.model.specs.Limits.{state_size, max_lines};
 ghost use Rattle.model.specs.Places.{kind};
 ghost use Rattle.model.specs.Step.{meaning, next};
 ghost use Rattle.model.specs.Stored.{operand_of, line_count, lines};
-ghost use Rattle.machine.specs.Loop.{Weights};
-ghost use Rattle.sets.specs.Walk.{set_width, max_values, listed, lists_of, sets_of, sized, values, distinct, heads, branches, loose, unsettled, written, onto, walk, told, verdict_report};
+ghost use Rattle.sets.specs.Walk.{max_values, listed, lists_of, sets_of, sized, values, distinct, heads, branches, loose, unsettled, written, onto, walk, told, verdict_report};
 ghost use Rattle.sets.specs.Claims.{Full};
 ghost use Rattle.sets.specs.Addresses.{leads};
 ghost use Rattle.choices.specs.Gathering.{line_by};
 ghost use Rattle.walk.specs.Moves.{moves};
 ghost use Rattle.walk.specs.declared.Move.TheVariants.{To};
 
-use choices::bus::{is_met, lead};
+use choices::bus::{Bus, is_met, lead};
 use choices::bytes::{ROOM, is_overfull, is_several, note, put_set, size_of, value_of};
 use choices::{base_of, explore};
-use machine::PLACES;
+use machine::tables::Weights;
 use model::{Condition, LINE_WIDTH, Mark, Opcode, ROW_WIDTH, Refusal, STATE_SIZE};
 use sets::{MAX_VALUES, SET_WIDTH, SETS_SIZE, Verdict};
 
-// What one step on sets answers: the next counter, or how the walk ends.
+// What one step on sets answers: the next counter, or how the walk ends. These are three ways, and only the last is a refusal.
 #[derive(Clone, Copy)]
 enum Move {
     To(u16),
@@ -39,8 +38,7 @@ fn is_branch(opcode: Opcode) -> bool
 }
 
 // What the values of a place mean as an argument of a line of that mark, each once; in an unmarked line they are the values.
-fn distinct_at(mark: Mark, sets: &[u8], i: usize) -> [u8; ROOM]
-    requires { length sets.now ≡ set_width * state_size }
+fn distinct_at(mark: Mark, sets: &[u8; SETS_SIZE], i: usize) -> [u8; ROOM]
     ensures { (listed result ≡ distinct (map (meaning mark (kind i)) (values (lists_of sets.now) i))) × (get_or result 0 0 ≤ max_values) }
 {
     let mut found = [0u8; ROOM];
@@ -51,8 +49,8 @@ fn distinct_at(mark: Mark, sets: &[u8], i: usize) -> [u8; ROOM]
 }
 
 // Whether an argument of a line of that mark or its base has several values.
-fn is_loose(mark: Mark, code: u16, sets: &[u8], state: &[u8]) -> bool
-    requires { (length sets.now ≡ set_width * state_size) × (state.now ≡ heads (lists_of sets.now)) }
+fn is_loose(mark: Mark, code: u16, sets: &[u8; SETS_SIZE], state: &[u8; STATE_SIZE]) -> bool
+    requires { state.now ≡ heads (lists_of sets.now) }
     ensures { result ≡ loose (lists_of sets.now) mark (operand_of code) }
 {
     is_several(sets, base_of(code))
@@ -60,8 +58,8 @@ fn is_loose(mark: Mark, code: u16, sets: &[u8], state: &[u8]) -> bool
 }
 
 // 21: a branch argument, its base or a destination's base has several values.
-fn is_unsettled(line: &[u16], sets: &[u8], state: &[u8]) -> bool
-    requires { (length line.now ≡ line_width) × (length sets.now ≡ set_width * state_size) × (state.now ≡ heads (lists_of sets.now)) }
+fn is_unsettled(line: &[u16; LINE_WIDTH], sets: &[u8; SETS_SIZE], state: &[u8; STATE_SIZE]) -> bool
+    requires { state.now ≡ heads (lists_of sets.now) }
     ensures { result ≡ unsettled (lists_of sets.now) (line_by line.now) }
 {
     let mark = coding::mark_of(line[0]);
@@ -76,13 +74,13 @@ fn go_on(
     counter: u16,
     sets: &mut [u8; SETS_SIZE],
     state: &mut [u8; STATE_SIZE],
-    bus: &mut [u16; SET_WIDTH],
+    bus: &mut Bus,
     found: &[u8; ROOM],
 ) -> u16
-    requires { (counter < 65535) × (state.old ≡ heads (lists_of sets.old)) × Full (lists_of sets.old) × (0 < length (listed bus.old)) × (get_or bus.old 0 0 ≤ max_values) × (get_or found.now 0 0 ≤ max_values) × (listed found.now ≡ written (lists_of sets.old) (line_by line.now)) }
+    requires { (counter < 65535) × (state.old ≡ heads (lists_of sets.old)) × Full (lists_of sets.old) × (0 < length bus.old) × (get_or found.now 0 0 ≤ max_values) × (listed found.now ≡ written (lists_of sets.old) (line_by line.now)) }
     ensures value { result ≡ next (line_by line.now) counter (heads (lists_of sets.old)) }
     ensures sets_after { (lists_of sets.new ≡ onto (lists_of sets.old) (line_by line.now)) × (state.new ≡ heads (lists_of sets.new)) }
-    ensures bus_after { (listed bus.new ≡ leads (lists_of sets.old) (listed bus.old) (line_by line.now)) × (0 < length (listed bus.new)) × (get_or bus.new 0 0 ≤ max_values) }
+    ensures bus_after { (bus.new ≡ leads (lists_of sets.old) bus.old (line_by line.now)) × (0 < length bus.new) }
 {
     lead(line, sets, bus);
     let next = machine::next_of(line[0], line[1], line[3], line[4], line[5], counter, state);
@@ -98,13 +96,13 @@ fn step(
     counter: u16,
     sets: &mut [u8; SETS_SIZE],
     state: &mut [u8; STATE_SIZE],
-    bus: &mut [u16; SET_WIDTH],
-    weights: &[u16; PLACES],
+    bus: &mut Bus,
+    weights: &Weights,
 ) -> Move
-    requires { (counter < 65535) × (state.old ≡ heads (lists_of sets.old)) × Full (lists_of sets.old) × (0 < length (listed bus.old)) × (get_or bus.old 0 0 ≤ max_values) × Weights weights.now }
-    ensures value { result ≡ moves (lists_of sets.old) (listed bus.old) (line_by line.now) counter }
+    requires { (counter < 65535) × (state.old ≡ heads (lists_of sets.old)) × Full (lists_of sets.old) × (0 < length bus.old) }
+    ensures value { result ≡ moves (lists_of sets.old) bus.old (line_by line.now) counter }
     ensures sets_after { (n : ℕ) → result ≡ To n → (lists_of sets.new ≡ onto (lists_of sets.old) (line_by line.now)) × (state.new ≡ heads (lists_of sets.new)) }
-    ensures bus_after { (n : ℕ) → result ≡ To n → (listed bus.new ≡ leads (lists_of sets.old) (listed bus.old) (line_by line.now)) × (0 < length (listed bus.new)) × (get_or bus.new 0 0 ≤ max_values) }
+    ensures bus_after { (n : ℕ) → result ≡ To n → (bus.new ≡ leads (lists_of sets.old) bus.old (line_by line.now)) × (0 < length bus.new) }
 {
     if is_unsettled(line, sets, state) {
         return Move::Refuses(Condition::SeveralValues);
@@ -123,15 +121,6 @@ fn step(
     Move::To(go_on(line, counter, sets, state, bus, &found))
 }
 
-// What the bus holds at the start of a walk: 0 alone.
-fn first_bus() -> [u16; SET_WIDTH]
-    ensures { (listed result ≡ 0 ∷ []) × (get_or result 0 0 ≤ max_values) }
-{
-    let mut bus = [0u16; SET_WIDTH];
-    bus[0] = 1;
-    bus
-}
-
 // At most `budget` steps on sets of a checked program of `count` lines, the bus at 0.
 fn walk_lines(
     program: &[u16],
@@ -143,8 +132,8 @@ fn walk_lines(
     requires { (count ≡ line_count program.now) × (count ≤ max_lines) × (state.old ≡ heads (lists_of sets.old)) × Full (lists_of sets.old) }
     ensures { result ≡ walk (lines program.now) budget 0 0 (lists_of sets.old) (0 ∷ []) }
 {
-    let weights = machine::all_weights();
-    let mut bus = first_bus();
+    let weights = Weights::all();
+    let mut bus = Bus::holding(0);
     let mut counter: u16 = 0;
     let mut steps: u16 = 0;
     while counter < count {
@@ -175,8 +164,7 @@ fn walk_lines(
 }
 
 // Whether each set has 1 to 16 values.
-fn is_sized(sets: &[u8]) -> bool
-    requires { length sets.now ≡ set_width * state_size }
+fn is_sized(sets: &[u8; SETS_SIZE]) -> bool
     ensures { result ≡ sized state_size sets.now }
 {
     for i in 0..STATE_SIZE {
@@ -189,8 +177,8 @@ fn is_sized(sets: &[u8]) -> bool
 }
 
 // The sets that are walked on, each value once, and the state of their first values.
-fn take_sets(sets: &[u8], own: &mut [u8], state: &mut [u8])
-    requires { (length sets.now ≡ set_width * state_size) × T (sized state_size sets.now) × (length own.old ≡ set_width * state_size) × (length state.old ≡ state_size) }
+fn take_sets(sets: &[u8; SETS_SIZE], own: &mut [u8; SETS_SIZE], state: &mut [u8; STATE_SIZE])
+    requires { T (sized state_size sets.now) }
     ensures { (lists_of own.new ≡ sets_of sets.now) × (state.new ≡ heads (lists_of own.new)) }
 {
     for i in 0..STATE_SIZE {
@@ -205,12 +193,12 @@ pub fn judge(program: &[u16], sets: &[u8], budget: u16) -> Result<Verdict, Refus
     ensures { told result ≡ verdict_report program.now sets.now budget }
 {
     let count = coding::check_program(program)?;
-    if sets.len() != SETS_SIZE {
+    let Ok(sets) = <&[u8; SETS_SIZE]>::try_from(sets) else {
         return Err(Refusal {
             condition: Condition::WrongLength,
             line: 0,
         });
-    }
+    };
     if !is_sized(sets) {
         return Err(Refusal {
             condition: Condition::TooManyValues,

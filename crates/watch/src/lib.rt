@@ -10,6 +10,7 @@ ghost use Rattle.watch.specs.Watches.{unused, unwatchable, both, watch_outcome};
 ghost use Rattle.watch.specs.Noting.{fresh, reached, noted, admission};
 
 use machine::steps::Run;
+use machine::tables::{Masks, Weights};
 use model::{Condition, Ending, LINE_WIDTH, Refusal, STATE_SIZE};
 
 pub mod twice;
@@ -99,6 +100,7 @@ fn admit(
 }
 
 // At most `budget` steps of a program that neither the run nor its watches refuse. After each step the watches are brought up to date with it.
+// Beside `machine::run_lines`, for the two calls more: of watches that a closure wrote in such a loop, a proof afterwards knows nothing.
 fn run_lines(
     program: &[u16],
     start: u16,
@@ -111,29 +113,19 @@ fn run_lines(
     ensures { both (outcome (ended result) (state.new ∷ trace.new ∷ [])) watches.new ≡ watch_outcome program.now start budget state.old trace.old watches.old }
 {
     let count = program.len() / LINE_WIDTH;
-    let masks = machine::all_masks();
-    let weights = machine::all_weights();
-    let mut run = Run {
-        counter: start,
-        steps: 0,
-        bus: 0,
-    };
+    let masks = Masks::all();
+    let weights = Weights::all();
+    let mut run = Run::new(start);
     begin(watches, state);
     while (run.counter as usize) < count {
         if budget <= run.steps {
-            return Ending::Spent {
-                counter: run.counter,
-                steps: run.steps,
-            };
+            return run.spent();
         }
         let stepped = run.step(program, &masks, &weights, state, trace);
         run = stepped.run;
         note(watches, state, stepped.place, run.steps);
     }
-    Ending::Halted {
-        counter: run.counter,
-        steps: run.steps,
-    }
+    run.halted()
 }
 
 // A run with watches. Answer, state and trace are those of `run`; 26 comes after its refusals. A refusal leaves everything lent as it is;

@@ -9,11 +9,11 @@ use lib.ListN.{length, drop}
 use Rattle.sets.specs.Walk.{listed, lists_of, values, heads, draw, involved}
 use Rattle.choices.specs.Gathering.{gathered, visited_all, line_by}
 use Rattle.choices.proofs.Gathered.{many_stays}
-use Rattle.choices.proofs.Narrowing.{opened, turned_none, turned-next, turned_all, within, same_size, few-values, read_value, narrowed_state, narrowed_settled}
+use Rattle.choices.proofs.Narrowing.{opened, turned_none, turned-next, turned_all, within, few-values, read_value, narrowed_state, narrowed_settled}
 use Rattle.choices.proofs.+explore.Goals as goal
 
 pub returns-then-is_overfull-clause-visited : goal.returns-then-is_overfull-clause-visited
-returns-then-is_overfull-clause-visited t c = (sym (many_stays _ _ _ _ (ltb-true _ _ (sym c.is_overfull.ensures ∙ c.if-is_overfull.true))), c.requires.2, c.told-found)
+returns-then-is_overfull-clause-visited t c = (sym (many_stays _ _ _ _ (ltb-true _ _ (sym c.is_overfull.ensures ∙ c.if-is_overfull.true))), c.requires.2)
 
 pub overflow_mul-count : goal.overflow_mul-count
 overflow_mul-count t c = let w = within (opened c.told-sets c.requires.1 c.in-Some.ensures) in omega arith
@@ -31,13 +31,13 @@ pub bounds-sets-at-2 : goal.bounds-sets-at-2
 bounds-sets-at-2 t c = let w = within (opened c.told-sets c.requires.1 c.in-Some.ensures) in omega arith
 
 pub loop-j-init : goal.loop-j-init
-loop-j-init t c = (c.size_of-n.ensures, c.requires.2, c.told-found, turned_none (opened c.told-sets c.requires.1 c.in-Some.ensures) _ _)
+loop-j-init t c = (c.size_of-n.ensures, c.requires.2, turned_none (opened c.told-sets c.requires.1 c.in-Some.ensures) _ _)
 
 pub value_beside-value-requires : goal.value_beside-value-requires
 value_beside-value-requires t c =
     let P = opened c.told-sets c.requires.1 c.in-Some.ensures in
     let I = c.loop-j.invariant in
-    (same_size P I.3, within P, few-values P I.3 (omega (arith, I.0)))
+    (within P, few-values P I.2 (omega (arith, I.0)))
 
 pub explore-seen-requires : goal.explore-seen-requires
 explore-seen-requires t c =
@@ -48,10 +48,9 @@ explore-seen-requires t c =
       omega (arith, c.decreases, P.opens.least, P.argument),
       (
         omega (arith, P.argument),
-        e.1 ∙ narrowed_state P I.3 v ∙ sym (ap (λ (b : List ℕ). heads (lists_of b)) e.0),
+        e.1 ∙ narrowed_state P I.2 v ∙ sym (ap (λ (b : List ℕ). heads (lists_of b)) e.0),
         I.1,
-        rw e.0 (narrowed_settled P I.3 v),
-        c.requires.4,
+        rw e.0 (narrowed_settled P I.2 v),
       ),
     )
 
@@ -66,8 +65,7 @@ loop-j-preserved t c =
     let h : c.loop-j.j < length (values (lists_of c.args.sets.now) c.in-Some.field-0.at) = omega (arith, I.0) in (
       I.0,
       e.visited.1,
-      e.visited.2,
-      turned-next P I.3 v.result _ _ _ h (read_value P I.3 h v.ensures) (e.unchanged.0 ∙ c.narrow.ensures.0) (e.unchanged.1 ∙ c.narrow.ensures.1)
+      turned-next P I.2 v.result _ _ _ h (read_value P I.2 h v.ensures) (e.unchanged.0 ∙ c.narrow.ensures.0) (e.unchanged.1 ∙ c.narrow.ensures.1)
           (e.visited.0 ∙ ap (λ (b : List ℕ). visited_all l c.args.counter now (draw (lists_of b) (drop (c.in-Some.field-0.level + 1) (involved l)))) c.narrow.ensures.0),
     )
 
@@ -75,4 +73,4 @@ pub returns-clause-visited : goal.returns-clause-visited
 returns-clause-visited t c =
     let P = opened c.told-sets c.requires.1 c.in-Some.ensures in
     let I = c.loop-j.invariant in
-    (turned_all P I.3 (omega (arith, I.0)), I.1, I.2)
+    (turned_all P I.2 (omega (arith, I.0)), I.1)

@@ -22,7 +22,7 @@ itself r q e = ap (λ (p : List ℕ). same_row r (set p 2 (get_or r 2 0))) (sym 
 
 pub returns-then-is_same : goal.returns-then-is_same
 returns-then-is_same c = elim c.if-first.branch [
-  | then-first w ↦ both _ _ _ (itself c.args.row.now c.args.shown.now (c.requires.0 w.if-first.true)) c.is_at.ensures
+  | then-first w ↦ both _ _ _ (itself c.args.row.now c.args.shown.now (c.requires w.if-first.true)) c.is_at.ensures
   | else-first w ↦ both _ _ _ (sym (w.is_same.ensures) ∙ sym w.value-is ∙ c.if-is_same.true) c.is_at.ensures
 ]
 

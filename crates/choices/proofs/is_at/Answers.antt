@@ -1,19 +1,10 @@
 -- `choices::is_at` meets its contract. The loop's invariant: the old values from j on are at that distance exactly where all are. Assumes nothing.
-use mathlib.Core.Path.{refl, sym, ap, ◌∙◌}
+use mathlib.Core.Path.{sym, ap, ◌∙◌}
 use Prim.Native.Nat.{ℕ}
 use native.Mathlib.Omega.{arith}
 use Rattle.model.specs.Step.{distance}
 use Rattle.choices.proofs.Turns.{all_over, all_next, one_off}
 use Rattle.choices.proofs.is_at.Goals as goal
-
-pub size_of-j-end-requires : goal.size_of-j-end-requires
-size_of-j-end-requires c = c.requires.0
-
-pub loop-j-init : goal.loop-j-init
-loop-j-init c = refl
-
-pub value_of-requires : goal.value_of-requires
-value_of-requires c = (c.requires.0, omega (arith, c.size_of-j-end.ensures))
 
 pub returns-then-distance_of-distance : goal.returns-then-distance_of-distance
 returns-then-distance_of-distance c = sym (one_off _ c.loop-j.j c.args.distance c.args.res (omega (arith, c.size_of-j-end.ensures)) (λ q. c.if-distance_of-distance.true (c.distance_of.ensures ∙ ap (λ (v : ℕ). distance v c.args.res) c.value_of.ensures ∙ q))) ∙ c.loop-j.invariant

@@ -1,5 +1,5 @@
 -- `choices::next_open` meets its contract. The loop's invariant: the places so far have one value each, so that nothing is drawn there. Assumes nothing.
-use mathlib.Core.Path.{◌≡◌, refl, sym, ap, ◌∙◌}
+use mathlib.Core.Path.{◌≡◌, sym, ap, ◌∙◌}
 use mathlib.Core.Bool.{not}
 use Prim.Native.Nat.{ℕ, ◌+◌, ◌≤◌, ◌<◌}
 use native.Mathlib.Omega.{arith}
@@ -27,20 +27,11 @@ module _ (S : Sets) (l : Line) (level k : ℕ) where
       let z : argument_places ≡ k = omega (arith, I.most) in
       record { least = omega (arith, I.least); most = omega arith; same = rw z I.same; settled = rw z I.settled; here = λ h. absurd (omega arith) }
 
-pub loop-k-init : goal.loop-k-init
-loop-k-init c = record { least = omega arith; most = c.requires.1; same = refl; settled = c.requires.4 }
-
-pub place_of-at-requires : goal.place_of-at-requires
-place_of-at-requires c = (c.requires.0, c.loop-k-test.true)
-
-pub is_several-requires : goal.is_several-requires
-is_several-requires c = c.requires.2
-
 pub returns-then-is_several : goal.returns-then-is_several
-returns-then-is_several c = (c.loop-k-test.true, here _ _ _ _ _ c.loop-k.invariant c.loop-k-test.true (c.place_of-at.ensures ∙ ap (λ (s : State). spot (line_by c.args.line.now) c.loop-k.k s) c.requires.3) (holds (sym c.is_several.ensures ∙ c.if-is_several.true)))
+returns-then-is_several c = (c.loop-k-test.true, here _ _ _ _ _ c.loop-k.invariant c.loop-k-test.true (c.place_of-at.ensures ∙ ap (λ (s : State). spot (line_by c.args.line.now) c.loop-k.k s) c.requires.1) (holds (sym c.is_several.ensures ∙ c.if-is_several.true)))
 
 pub loop-k-preserved : goal.loop-k-preserved
-loop-k-preserved c = past _ _ _ _ _ c.loop-k.invariant c.loop-k-test.true (c.place_of-at.ensures ∙ ap (λ (s : State). spot (line_by c.args.line.now) c.loop-k.k s) c.requires.3) (holds (ap not (sym c.is_several.ensures ∙ c.if-is_several.false)))
+loop-k-preserved c = past _ _ _ _ _ c.loop-k.invariant c.loop-k-test.true (c.place_of-at.ensures ∙ ap (λ (s : State). spot (line_by c.args.line.now) c.loop-k.k s) c.requires.1) (holds (ap not (sym c.is_several.ensures ∙ c.if-is_several.false)))
 
 pub returns : goal.returns
 returns c = none _ _ _ _ c.loop-k.invariant c.loop-k-test.false

@@ -32,11 +32,8 @@ odd n (suc (suc zero)) s h e = absurd (e refl)
 odd n (suc (suc (suc zero))) s h e = refl
 odd n (suc (suc (suc (suc level)))) s h e = absurd (omega arith)
 
-pub argument_at-code-requires : goal.argument_at-code-requires
-argument_at-code-requires c = c.requires.0
-
 pub returns-then-level-eq0 : goal.returns-then-level-eq0
-returns-then-level-eq0 c = c.base_of.ensures ∙ ap (λ (n : ℕ). base (operand_of n)) c.argument_at-code.ensures ∙ even c.args.line.now c.args.level c.args.state.now c.requires.1 c.if-level-eq0.true
+returns-then-level-eq0 c = c.base_of.ensures ∙ ap (λ (n : ℕ). base (operand_of n)) c.argument_at-code.ensures ∙ even c.args.line.now c.args.level c.args.state.now c.requires c.if-level-eq0.true
 
 pub returns : goal.returns
-returns c = c.place_at.ensures ∙ ap (λ (n : ℕ). place (operand_of n) c.args.state.now) c.argument_at-code.ensures ∙ odd c.args.line.now c.args.level c.args.state.now c.requires.1 c.if-level-eq0.false
+returns c = c.place_at.ensures ∙ ap (λ (n : ℕ). place (operand_of n) c.args.state.now) c.argument_at-code.ensures ∙ odd c.args.line.now c.args.level c.args.state.now c.requires c.if-level-eq0.false

@@ -73,9 +73,6 @@ module _ (n : List ℕ) (k : ℕ) (b : List ℕ) (s : State) (f f' r r' : List �
 kept-first : (a : Bool) (r xs ys : List ℕ) → r ≡ cond a xs ys → a ≡ true → r ≡ xs
 kept-first a r xs ys q e = q ∙ rw e
 
-pub effect_of-e-requires : goal.effect_of-e-requires
-effect_of-e-requires c = (c.requires.3, omega arith)
-
 pub returns-then-is_overfull : goal.returns-then-is_overfull
 returns-then-is_overfull c =
     let x = c.args in
@@ -95,7 +92,7 @@ returns-then-leak c =
     (leaked x.line.now x.counter x.sets.now x.state.now x.found.now t.new.found x.row.now q.new.row x.leak e.result p.0 p.2 c.told-found p.1 (search rules) e.ensures q.ensures t.ensures.0 (sym c.is_overfull.ensures ∙ c.if-is_overfull.false) c.if-leak.true, t.ensures.1)
 
 pub is_alike-requires : goal.is_alike-requires
-is_alike-requires c = (kept-first _ _ _ _ c.keep_row.ensures, search rules, c.requires.3)
+is_alike-requires c = kept-first _ _ _ _ c.keep_row.ensures
 
 pub returns-else-leak : goal.returns-else-leak
 returns-else-leak c =

@@ -34,16 +34,13 @@ worked l k s bus m p x y z q r o u v w t em ep ex ey ez er eq eo ax ay aq eu ev 
     rw (is, eq, row_read l k s bus x y q r o u v w t ex ey eq eo is ax ay aq eu ev ew et)
 
 pub put_on_bus-first-requires : goal.put_on_bus-first-requires
-put_on_bus-first-requires c = (c.requires.0, fetched_most c.args.state.now c.args.a _ c.fetch-x.ensures, fetched_by c.args.state.now c.args.a _ c.fetch-x.ensures, c.requires.1)
+put_on_bus-first-requires c = (fetched_most c.args.state.now c.args.a _ c.fetch-x.ensures, fetched_by c.args.state.now c.args.a _ c.fetch-x.ensures, c.requires)
 
 pub put_on_bus-second-requires : goal.put_on_bus-second-requires
-put_on_bus-second-requires c = (c.requires.0, fetched_most c.args.state.now c.args.b _ c.fetch-y.ensures, fetched_by c.args.state.now c.args.b _ c.fetch-y.ensures, c.put_on_bus-first.ensures.1)
+put_on_bus-second-requires c = (fetched_most c.args.state.now c.args.b _ c.fetch-y.ensures, fetched_by c.args.state.now c.args.b _ c.fetch-y.ensures, c.put_on_bus-first.ensures.1)
 
 pub put_on_bus-destination-requires : goal.put_on_bus-destination-requires
-put_on_bus-destination-requires c = (c.requires.0, rw c.place_at-at.ensures (place_most c.args.state.now c.args.d), rw c.place_at-at.ensures (cell_by c.args.state.now c.args.d), c.put_on_bus-second.ensures.1)
-
-pub row_of-row-requires : goal.row_of-row-requires
-row_of-row-requires c = c.requires.0
+put_on_bus-destination-requires c = (rw c.place_at-at.ensures (place_most c.args.state.now c.args.d), rw c.place_at-at.ensures (cell_by c.args.state.now c.args.d), c.put_on_bus-second.ensures.1)
 
 pub returns : goal.returns
 returns c =

@@ -7,24 +7,18 @@ use Rattle.machine.proofs.Performed.{performed}
 use Rattle.machine.proofs.perform.Goals as goal
 
 pub put_on_bus-first-requires : goal.put_on_bus-first-requires
-put_on_bus-first-requires c = (c.requires.2, fetched_most c.args.state.now c.args.a _ c.fetch-x.ensures, fetched_by c.args.state.now c.args.a _ c.fetch-x.ensures, c.requires.3)
+put_on_bus-first-requires c = (fetched_most c.args.state.now c.args.a _ c.fetch-x.ensures, fetched_by c.args.state.now c.args.a _ c.fetch-x.ensures, c.requires.1)
 
 pub put_on_bus-second-requires : goal.put_on_bus-second-requires
-put_on_bus-second-requires c = (c.requires.2, fetched_most c.args.state.now c.args.b _ c.fetch-y.ensures, fetched_by c.args.state.now c.args.b _ c.fetch-y.ensures, c.put_on_bus-first.ensures.1)
+put_on_bus-second-requires c = (fetched_most c.args.state.now c.args.b _ c.fetch-y.ensures, fetched_by c.args.state.now c.args.b _ c.fetch-y.ensures, c.put_on_bus-first.ensures.1)
 
 pub mask_arguments-args-requires : goal.mask_arguments-args-requires
 mask_arguments-args-requires c =
     let a = c.args in
-    (c.requires.1, fetched_most a.state.now a.a _ c.fetch-x.ensures, fetched_most a.state.now a.b _ c.fetch-y.ensures)
-
-pub advanced-next-requires : goal.advanced-next-requires
-advanced-next-requires c = c.requires.0
+    (fetched_most a.state.now a.a _ c.fetch-x.ensures, fetched_most a.state.now a.b _ c.fetch-y.ensures)
 
 pub put_on_bus-destination-requires : goal.put_on_bus-destination-requires
-put_on_bus-destination-requires c = (c.requires.2, rw c.replace-written.ensures.replaced.0 (place_most c.args.state.now c.args.d), rw c.replace-written.ensures.replaced.0 (cell_by c.args.state.now c.args.d), c.put_on_bus-second.ensures.1)
-
-pub row_of-requires : goal.row_of-requires
-row_of-requires c = c.requires.2
+put_on_bus-destination-requires c = (rw c.replace-written.ensures.replaced.0 (place_most c.args.state.now c.args.d), rw c.replace-written.ensures.replaced.0 (cell_by c.args.state.now c.args.d), c.put_on_bus-second.ensures.1)
 
 pub returns : goal.returns
 returns c =

@@ -15,19 +15,16 @@ unfolding ones
 quiet i b e = rw (no_address i e, bus_left i b e, distance_same b)
 
 pub returns-then-code-lt-CELLS : goal.returns-then-code-lt-CELLS
-returns-then-code-lt-CELLS c = (quiet c.args.at c.args.bus (by_low c.args.code c.args.at c.requires.2 c.if-code-lt-CELLS.true), c.requires.3)
+returns-then-code-lt-CELLS c = (quiet c.args.at c.args.bus (by_low c.args.code c.args.at c.requires.1 c.if-code-lt-CELLS.true), c.requires.2)
 
 pub overflow_sub-address : goal.overflow_sub-address
-overflow_sub-address c = omega (arith, (cell_range c.args.at (by_high c.args.code c.args.at c.requires.2 c.if-code-lt-CELLS.false)).0)
-
-pub overflow_cast-address : goal.overflow_cast-address
-overflow_cast-address c = let r = cell_range c.args.at (by_high c.args.code c.args.at c.requires.2 c.if-code-lt-CELLS.false) in omega (arith, r.0, r.1)
+overflow_sub-address c = omega (arith, (cell_range c.args.at (by_high c.args.code c.args.at c.requires.1 c.if-code-lt-CELLS.false)).0)
 
 pub distance_of-requires : goal.distance_of-requires
-distance_of-requires c = let r = cell_range c.args.at (by_high c.args.code c.args.at c.requires.2 c.if-code-lt-CELLS.false) in (c.requires.0, c.requires.3, omega (arith, r.0, r.1))
+distance_of-requires c = let r = cell_range c.args.at (by_high c.args.code c.args.at c.requires.1 c.if-code-lt-CELLS.false) in (c.requires.2, omega (arith, r.0, r.1))
 
 pub returns : goal.returns
 returns c =
-    let e = by_high c.args.code c.args.at c.requires.2 c.if-code-lt-CELLS.false in
+    let e = by_high c.args.code c.args.at c.requires.1 c.if-code-lt-CELLS.false in
     let r = cell_range c.args.at e in
-    (shown c.args.at c.args.bus _ _ e (c.requires.0 c.args.at c.requires.1) c.distance_of.ensures, omega (arith, r.0, r.1))
+    (shown c.args.at c.args.bus _ _ e (c.args.weights.now.right c.args.at c.requires.0) c.distance_of.ensures, omega (arith, r.0, r.1))

@@ -1,26 +1,14 @@
 -- `machine::run_lines` meets its contract. The loop's invariant: the steps that are left give the same outcome as the whole run.
 -- The measure is what is left of the budget. Assumes nothing.
-use Rattle.std.proofs.Common.{sym, ◌∙◌, arith, lit<, rules}
+use Rattle.std.proofs.Common.{sym, ◌∙◌, arith}
 use Rattle.machine.specs.Loop.{machine}
-use Rattle.machine.proofs.Loops.{begins, halts, spends, goes_on, tally}
+use Rattle.machine.proofs.Loops.{halts, spends, goes_on, tally}
 use Rattle.machine.proofs.run_lines.Goals as goal
-
-pub loop-run-init : goal.loop-run-init
-loop-run-init c = (search rules, lit< tt, search rules, search rules, begins _ _ _ _)
-
-pub shape_of-state-then-budget-run : goal.shape_of-state-then-budget-run
-shape_of-state-then-budget-run c = c.loop-run.invariant.2
-
-pub shape_of-trace-then-budget-run : goal.shape_of-trace-then-budget-run
-shape_of-trace-then-budget-run c = c.loop-run.invariant.3
 
 pub returns-then-budget-run : goal.returns-then-budget-run
 returns-then-budget-run c =
     let l = c.loop-run in
-    sym (spends _ _ _ (machine l.run l.state l.trace) c.loop-run-test.true (omega arith)) ∙ l.invariant.4
-
-pub step-requires : goal.step-requires
-step-requires c = (c.all_masks-masks.ensures, c.all_weights-weights.ensures, omega arith, omega arith, c.loop-run.invariant.1, omega arith)
+    rw c.spent.ensures (sym (spends _ _ _ (machine l.run l.state l.trace) c.loop-run-test.true (omega arith)) ∙ l.invariant.4)
 
 pub loop-run-smaller : goal.loop-run-smaller
 loop-run-smaller c =
@@ -39,13 +27,7 @@ loop-run-preserved c =
       goes_on p _ _ (machine l.run l.state l.trace) _ _ c.loop-run-test.true c.if-budget-run.false f.ensures.stepped l.invariant.4,
     )
 
-pub shape_of-state : goal.shape_of-state
-shape_of-state c = c.loop-run.invariant.2
-
-pub shape_of-trace : goal.shape_of-trace
-shape_of-trace c = c.loop-run.invariant.3
-
 pub returns : goal.returns
 returns c =
     let l = c.loop-run in
-    sym (halts _ _ _ (machine l.run l.state l.trace) c.loop-run-test.false) ∙ l.invariant.4
+    rw c.halted.ensures (sym (halts _ _ _ (machine l.run l.state l.trace) c.loop-run-test.false) ∙ l.invariant.4)

@@ -1,7 +1,7 @@
 -- `machine::write_row` meets its contract. The loop's invariant: the first i numbers of the row stand in the store, the rest of
 -- it is as it was. Assumes nothing.
-use Rattle.std.proofs.Common.{◌≡◌, ℕ, ◌+◌, ◌*◌, ◌<◌, ◌≤◌, List, ◌++◌, length, get_or, take, drop, set, ap, ◌∙◌, add-one, arith, take_all, rules}
-use lib.Seq.{paste, paste-zero, paste-suc, length-paste}
+use Rattle.std.proofs.Common.{◌≡◌, ℕ, ◌+◌, ◌*◌, ◌<◌, ◌≤◌, List, ◌++◌, length, get_or, take, drop, set, ap, ◌∙◌, add-one, arith, take_all}
+use lib.Seq.{paste, paste-suc, length-paste}
 use Rattle.model.specs.Limits.{row_width}
 use Rattle.machine.proofs.write_row.Goals as goal
 
@@ -17,26 +17,11 @@ module _ (t t' : List ℕ) (k : ℕ) (r : List ℕ) (i : ℕ) (e : t' ≡ paste 
       let z : i ≡ row_width = omega arith in
       e ∙ rw (z, take_all row_width r (omega arith))
 
-pub loop-i-init : goal.loop-i-init
-loop-i-init c = (search rules, paste-zero c.args.trace.now (row_width * c.args.n) c.args.row)
-
-pub bounds-trace-k : goal.bounds-trace-k
-bounds-trace-k c =
-    let x = c.args in
-    let l = c.loop-i in
-    omega (arith, same_size x.trace.now l.trace (row_width * x.n) x.row l.i l.invariant.1 l.invariant.0 c.requires (omega arith))
-
 pub loop-i-preserved : goal.loop-i-preserved
 loop-i-preserved c =
     let x = c.args in
     let l = c.loop-i in
     (l.invariant.0, one_number x.trace.now l.trace (row_width * x.n) x.row l.i l.invariant.1 l.invariant.0 c.requires c.loop-i-test.true)
-
-pub shape_of-trace : goal.shape_of-trace
-shape_of-trace c =
-    let x = c.args in
-    let l = c.loop-i in
-    same_size x.trace.now l.trace (row_width * x.n) x.row l.i l.invariant.1 l.invariant.0 c.requires (omega arith)
 
 pub returns : goal.returns
 returns c =

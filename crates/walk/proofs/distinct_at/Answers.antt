@@ -49,24 +49,18 @@ module _ (f : ℕ → ℕ) (b : List ℕ) (i : ℕ) (l : length b ≡ set_width 
     omega (arith, listed-few u set_width I.long I.count, I.few_noted, meant-length, at_most),
   )
 
-pub size_of-j-end-requires : goal.size_of-j-end-requires
-size_of-j-end-requires c = c.requires
-
 pub loop-j-init : goal.loop-j-init
 loop-j-init c = record { long = search rules; count = omega arith; few_noted = omega arith; same = refl }
-
-pub value_of-requires : goal.value_of-requires
-value_of-requires c = (c.requires, omega (arith, c.size_of-j-end.ensures))
 
 pub note-requires : goal.note-requires
 note-requires c =
     let I = c.loop-j.invariant in
-    let most = at_most (meaning c.args.mark (kind c.args.i)) c.args.sets.now c.args.i c.requires in
-    let same = meant-length (meaning c.args.mark (kind c.args.i)) c.args.sets.now c.args.i c.requires in
-    (I.long, omega (arith, listed-few c.loop-j.found set_width I.long I.count, I.few_noted, c.size_of-j-end.ensures, same, most, c.loop-j-test.true))
+    let most = at_most (meaning c.args.mark (kind c.args.i)) c.args.sets.now c.args.i c.told-sets in
+    let same = meant-length (meaning c.args.mark (kind c.args.i)) c.args.sets.now c.args.i c.told-sets in
+    omega (arith, listed-few c.loop-j.found set_width I.long I.count, I.few_noted, c.size_of-j-end.ensures, same, most, c.loop-j-test.true)
 
 pub loop-j-preserved : goal.loop-j-preserved
-loop-j-preserved c = one_more (meaning c.args.mark (kind c.args.i)) c.args.sets.now c.args.i c.requires _ _ _ c.size_of-j-end.ensures c.loop-j.invariant c.loop-j-test.true (search rules) c.value_of.ensures c.argument.ensures c.note.ensures
+loop-j-preserved c = one_more (meaning c.args.mark (kind c.args.i)) c.args.sets.now c.args.i c.told-sets _ _ _ c.size_of-j-end.ensures c.loop-j.invariant c.loop-j-test.true (search rules) c.value_of.ensures c.argument.ensures c.note.ensures
 
 pub returns : goal.returns
-returns c = whole (meaning c.args.mark (kind c.args.i)) c.args.sets.now c.args.i c.requires _ _ c.size_of-j-end.ensures c.loop-j.invariant c.loop-j.auto.j-end c.loop-j-test.false
+returns c = whole (meaning c.args.mark (kind c.args.i)) c.args.sets.now c.args.i c.told-sets _ _ c.size_of-j-end.ensures c.loop-j.invariant c.loop-j.auto.j-end c.loop-j-test.false

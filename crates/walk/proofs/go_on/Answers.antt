@@ -6,7 +6,7 @@ use lib.ListN.{get_or}
 use Rattle.model.specs.Places.{State}
 use Rattle.model.specs.Step.{next}
 use Rattle.model.specs.Stored.{line_of}
-use Rattle.sets.specs.Walk.{listed, lists_of}
+use Rattle.sets.specs.Walk.{lists_of}
 use Rattle.choices.specs.Gathering.{line_by}
 use Rattle.walk.proofs.StepLaws.{leads_some, went, went_heads}
 use Rattle.walk.proofs.go_on.Goals as goal
@@ -27,12 +27,11 @@ returns c =
     let bus = c.args.bus.now in record {
       value = goes n c.args.counter _ _ c.next_of-next.ensures c.requires.1;
       sets_after = (
-        went S n s f at c.requires.2 c.requires.1 c.place_at-at.ensures lf c.requires.5 c.requires.6 _ c.put_set.ensures,
-        went_heads S n s f at c.requires.2 c.requires.1 c.place_at-at.ensures lf c.requires.5 c.requires.6 _ _ c.put_set.ensures c.write.ensures,
+        went S n s f at c.requires.2 c.requires.1 c.place_at-at.ensures lf c.requires.4 c.requires.5 _ c.put_set.ensures,
+        went_heads S n s f at c.requires.2 c.requires.1 c.place_at-at.ensures lf c.requires.4 c.requires.5 _ _ c.put_set.ensures c.write.ensures,
       );
       bus_after = (
-        c.lead.ensures.0,
-        rw c.lead.ensures.0 (leads_some S (listed bus) (line_by n) c.requires.2 c.requires.3),
-        c.lead.ensures.1,
+        c.lead.ensures,
+        rw c.lead.ensures (leads_some S bus (line_by n) c.requires.2 c.requires.3),
       );
     }

@@ -45,4 +45,4 @@ returns-else-is_several c =
     let S = lists_of c.args.sets.now in
     let d = c.distinct_at in
     by_place S _ (operand_of c.args.code) d.result (ap (λ (i : ℕ). several (values S i)) (sym c.base_of.ensures) ∙ sym c.is_several.ensures ∙ c.if-is_several.false)
-    (search rules) d.ensures.1 (meant S _ (operand_of c.args.code) _ _ d.result c.requires.1 c.place_at.ensures d.ensures.0)
+    (search rules) d.ensures.1 (meant S _ (operand_of c.args.code) _ _ d.result c.requires c.place_at.ensures d.ensures.0)

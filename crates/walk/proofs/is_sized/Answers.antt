@@ -1,15 +1,8 @@
 -- `walk::is_sized` meets its contract. The loop's invariant: the counts that are left are right exactly where all are. Assumes nothing.
-use mathlib.Core.Path.{refl, sym, ◌∙◌}
-use native.Mathlib.Omega.{arith}
+use mathlib.Core.Path.{sym, ◌∙◌}
 use Rattle.choices.proofs.Turns.{sized_empty, sized_long, sized-next, sized-over}
 use Rattle.walk.proofs.is_sized.Goals as goal
 use Rattle.walk.proofs.is_sized.Goals.{then-n-eq0-via-then-n-eq0, then-n-eq0-via-else-n-eq0+then-n-gt-MAX_VALUES}
-
-pub loop-i-init : goal.loop-i-init
-loop-i-init c = refl
-
-pub bounds-sets-i : goal.bounds-sets-i
-bounds-sets-i c = omega (arith, c.requires)
 
 pub returns-then-n-eq0 : goal.returns-then-n-eq0
 returns-then-n-eq0 c = elim c.then-n-eq0.branch [

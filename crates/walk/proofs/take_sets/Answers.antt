@@ -22,11 +22,10 @@ use Rattle.walk.proofs.take_sets.Goals as goal
 
 module _ (b own : List ℕ) (s : State) (i : ℕ) where
   one_more : length b ≡ set_width * state_size → T (sized state_size b) → Took b own s i → i < state_size → (f : List ℕ) → length f ≡ suc set_width
-      → listed f ≡ distinct (values (lists_of b) i) → get_or f 0 0 ≤ max_values → (own' : List ℕ) → length own' ≡ length own
+      → listed f ≡ distinct (values (lists_of b) i) → get_or f 0 0 ≤ max_values → (own' : List ℕ)
       → lists_of own' ≡ set (lists_of own) i (listed (take set_width f)) → Took b own' (set s i (get_or f 1 0)) (i + 1)
-  one_more l h I g f lf ef hf own' lo eo = record {
-    long = lo ∙ I.long;
-    long_state = length-set s i (get_or f 1 0) ∙ I.long_state;
+  one_more l h I g f lf ef hf own' eo = record {
+    long = length-set s i (get_or f 1 0) ∙ I.long;
     lists = λ m n. at-list m n (ℕ_discrete m i);
     first_values = λ m n. at_first m n (ℕ_discrete m i);
   }
@@ -42,7 +41,7 @@ module _ (b own : List ℕ) (s : State) (i : ℕ) where
       at_first : (m : ℕ) → m < i + 1 → Dec (m ≡ i) → get_or (set s i (get_or f 1 0)) m 0 ≡ get_or (values (sets_of b) m) 0 0
       at_first m n (no d) = get_or-set_other s i m (get_or f 1 0) 0 d ∙ I.first_values m (omega (arith, d))
       at_first m n (yes e) =
-          rw (e, get_or-set_same s i (get_or f 1 0) 0 (omega (arith, I.long_state)))
+          rw (e, get_or-set_same s i (get_or f 1 0) 0 (omega (arith, I.long)))
           (sym (listed_at f set_width lf 0 (rw found ((sized-full b l h).some_in i g))) ∙ ap (λ (xs : List ℕ). get_or xs 0 0) found)
 
   all : Took b own s i → i ≤ state_size → state_size ≤ i → (lists_of own ≡ sets_of b) × (s ≡ heads (lists_of own))
@@ -51,8 +50,8 @@ module _ (b own : List ℕ) (s : State) (i : ℕ) where
       ext_get_or (0 ∷ []) (lists_of own) (sets_of b) (lists_length state_size own ∙ sym (length-map (lists_of b) distinct ∙ lists_length state_size b))
       (λ m n. I.lists m (omega (arith, lists_length state_size own))) in (
         same,
-        ext_get_or 0 s (heads (lists_of own)) (I.long_state ∙ sym (length-map (lists_of own) (λ xs. get_or xs 0 0) ∙ lists_length state_size own))
-            (λ m n. I.first_values m (omega (arith, I.long_state)) ∙ ap (λ (S : Sets). get_or (values S m) 0 0) (sym same) ∙ sym (heads_at (lists_of own) m)),
+        ext_get_or 0 s (heads (lists_of own)) (I.long ∙ sym (length-map (lists_of own) (λ xs. get_or xs 0 0) ∙ lists_length state_size own))
+            (λ m n. I.first_values m (omega (arith, I.long)) ∙ ap (λ (S : Sets). get_or (values S m) 0 0) (sym same) ∙ sym (heads_at (lists_of own) m)),
       )
 
 -- in an unmarked line values are as they are
@@ -63,24 +62,7 @@ as-they-are k (x ∷ xs) = ap (λ (ys : List ℕ). x ∷ ys) (as-they-are k xs)
 
 pub loop-i-init : goal.loop-i-init
 loop-i-init c =
-    let p = c.requires in
-    record { long = p.2; long_state = p.3; lists = λ i h. absurd (omega arith); first_values = λ i h. absurd (omega arith) }
-
-pub distinct_at-found-requires : goal.distinct_at-found-requires
-distinct_at-found-requires c =
-    let p = c.requires in
-    p.0
-
-pub put_set-requires : goal.put_set-requires
-put_set-requires c =
-    let m = c.loop-i in
-    (m.invariant.long, search rules)
-
-pub bounds-state-i : goal.bounds-state-i
-bounds-state-i c =
-    let t = c.loop-i-test in
-    let m = c.loop-i in
-    omega (arith, m.invariant.long_state, t.true)
+    record { long = c.told-state; lists = λ i h. absurd (omega arith); first_values = λ i h. absurd (omega arith) }
 
 pub loop-i-preserved : goal.loop-i-preserved
 loop-i-preserved c =
@@ -89,20 +71,7 @@ loop-i-preserved c =
     let t = c.loop-i-test in
     let m = c.loop-i in
     let x = c.args in
-    let p = c.requires in
-    one_more x.sets.now m.own m.state m.i p.0 p.1 m.invariant t.true v.result (search rules) (v.ensures.0 ∙ ap distinct (as-they-are (kind m.i) (values (lists_of x.sets.now) m.i))) v.ensures.1 _ q.auto.sets q.ensures
-
-pub shape_of-own : goal.shape_of-own
-shape_of-own c =
-    let m = c.loop-i in
-    let p = c.requires in
-    m.invariant.long ∙ sym p.2
-
-pub shape_of-state : goal.shape_of-state
-shape_of-state c =
-    let m = c.loop-i in
-    let p = c.requires in
-    m.invariant.long_state ∙ sym p.3
+    one_more x.sets.now m.own m.state m.i c.told-sets c.requires m.invariant t.true v.result (search rules) (v.ensures.0 ∙ ap distinct (as-they-are (kind m.i) (values (lists_of x.sets.now) m.i))) v.ensures.1 _ q.ensures
 
 pub returns : goal.returns
 returns c =

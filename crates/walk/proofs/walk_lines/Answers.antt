@@ -4,7 +4,7 @@ use mathlib.Core.List.{List}
 use Prim.Native.Nat.{ℕ}
 use native.Mathlib.Omega.{arith}
 use Rattle.model.specs.Stored.{lines, line_at}
-use Rattle.sets.specs.Walk.{listed, lists_of, onto, walk}
+use Rattle.sets.specs.Walk.{lists_of, onto, walk}
 use Rattle.sets.specs.Addresses.{leads}
 use Rattle.choices.specs.Gathering.{line_by}
 use Rattle.walk.specs.Moves.{moves}
@@ -18,9 +18,8 @@ loop-counter-init c =
       omega arith,
       p.2,
       p.3,
-      rw c.first_bus-bus.ensures.0 (omega arith),
-      c.first_bus-bus.ensures.1,
-      begins _ _ _ _ ∙ ap (λ (b : List ℕ). walk (lines c.args.program.now) c.args.budget 0 0 (lists_of c.args.sets.now) b) c.first_bus-bus.ensures.0,
+      rw c.holding-bus.ensures (omega arith),
+      begins _ _ _ _ ∙ ap (λ (b : List ℕ). walk (lines c.args.program.now) c.args.budget 0 0 (lists_of c.args.sets.now) b) c.holding-bus.ensures,
     )
 
 pub returns-then-budget-steps : goal.returns-then-budget-steps
@@ -30,14 +29,14 @@ returns-then-budget-steps c =
     let p = c.requires in
     let t = c.loop-counter-test in
     let i1 = c.if-budget-steps in
-    spends x.program.now m.counter m.steps x.budget (lists_of m.sets) (listed m.bus) (omega (arith, p.0, t.true)) i1.true ∙ m.invariant.5
+    spends x.program.now m.counter m.steps x.budget (lists_of m.sets) m.bus (omega (arith, p.0, t.true)) i1.true ∙ m.invariant.4
 
 pub step-requires : goal.step-requires
 step-requires c =
     let p = c.requires in
     let t = c.loop-counter-test in
     let m = c.loop-counter in
-    (omega (arith, p.1, t.true), m.invariant.1, m.invariant.2, m.invariant.3, m.invariant.4, c.all_weights-weights.ensures)
+    (omega (arith, p.1, t.true), m.invariant.1, m.invariant.2, m.invariant.3)
 
 pub loop-counter-preserved : goal.loop-counter-preserved
 loop-counter-preserved c =
@@ -49,17 +48,16 @@ loop-counter-preserved c =
     let x = c.args in
     let p = c.requires in
     let t = c.loop-counter-test in
-    let e = (f.ensures.value ∙ ap (λ (a : List ℕ). moves (lists_of m.sets) (listed m.bus) (line_by a) m.counter) n.ensures) in
+    let e = (f.ensures.value ∙ ap (λ (a : List ℕ). moves (lists_of m.sets) m.bus (line_by a) m.counter) n.ensures) in
     let w = f.ensures.sets_after d.next d.is in
     let v = f.ensures.bus_after d.next d.is in
-    let r = v.0 ∙ ap (λ (a : List ℕ). leads (lists_of m.sets) (listed m.bus) (line_by a)) n.ensures in
+    let r = v.0 ∙ ap (λ (a : List ℕ). leads (lists_of m.sets) m.bus (line_by a)) n.ensures in
     let s = w.0 ∙ ap (λ (a : List ℕ). onto (lists_of m.sets) (line_by a)) n.ensures in (
       omega (arith, i1.false),
       w.1,
       rw s (onto-full (lists_of m.sets) (line_at x.program.now m.counter) m.invariant.2),
       v.1,
-      v.2,
-      goes_on x.program.now m.counter m.steps x.budget (lists_of m.sets) (listed m.bus) (omega (arith, p.0, t.true)) i1.false _ _ _ _ _ e d.is s r m.invariant.2 m.invariant.3 m.invariant.5,
+      goes_on x.program.now m.counter m.steps x.budget (lists_of m.sets) m.bus (omega (arith, p.0, t.true)) i1.false _ _ _ _ _ e d.is s r m.invariant.2 m.invariant.3 m.invariant.4,
     )
 
 pub returns-in-Leaks : goal.returns-in-Leaks
@@ -71,7 +69,7 @@ returns-in-Leaks c =
     let i1 = c.if-budget-steps in
     let f = c.step in
     let n = c.numbers_at-line in
-    ends x.program.now m.counter m.steps x.budget (lists_of m.sets) (listed m.bus) (omega (arith, p.0, t.true)) i1.false _ _ (sym c.in-Leaks.is ∙ (f.ensures.value ∙ ap (λ (a : List ℕ). moves (lists_of m.sets) (listed m.bus) (line_by a) m.counter) n.ensures)) refl ∙ m.invariant.5
+    ends x.program.now m.counter m.steps x.budget (lists_of m.sets) m.bus (omega (arith, p.0, t.true)) i1.false _ _ (sym c.in-Leaks.is ∙ (f.ensures.value ∙ ap (λ (a : List ℕ). moves (lists_of m.sets) m.bus (line_by a) m.counter) n.ensures)) refl ∙ m.invariant.4
 
 pub returns-in-Refuses : goal.returns-in-Refuses
 returns-in-Refuses c =
@@ -82,7 +80,7 @@ returns-in-Refuses c =
     let i1 = c.if-budget-steps in
     let f = c.step in
     let n = c.numbers_at-line in
-    ends x.program.now m.counter m.steps x.budget (lists_of m.sets) (listed m.bus) (omega (arith, p.0, t.true)) i1.false _ _ (sym c.in-Refuses.is ∙ (f.ensures.value ∙ ap (λ (a : List ℕ). moves (lists_of m.sets) (listed m.bus) (line_by a) m.counter) n.ensures)) refl ∙ m.invariant.5
+    ends x.program.now m.counter m.steps x.budget (lists_of m.sets) m.bus (omega (arith, p.0, t.true)) i1.false _ _ (sym c.in-Refuses.is ∙ (f.ensures.value ∙ ap (λ (a : List ℕ). moves (lists_of m.sets) m.bus (line_by a) m.counter) n.ensures)) refl ∙ m.invariant.4
 
 pub returns : goal.returns
 returns c =
@@ -90,4 +88,4 @@ returns c =
     let m = c.loop-counter in
     let p = c.requires in
     let t = c.loop-counter-test in
-    balances x.program.now m.counter m.steps x.budget (lists_of m.sets) (listed m.bus) (omega (arith, p.0, t.false)) ∙ m.invariant.5
+    balances x.program.now m.counter m.steps x.budget (lists_of m.sets) m.bus (omega (arith, p.0, t.false)) ∙ m.invariant.4

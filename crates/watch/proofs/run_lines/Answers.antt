@@ -8,19 +8,13 @@ use Rattle.watch.proofs.run_lines.Goals as goal
 pub loop-run-init : goal.loop-run-init
 loop-run-init c =
     let x = c.args in
-    (lit< tt, begins_at x.program.now x.start x.budget x.state.now x.trace.now x.watches.now _ c.requires c.begin.ensures)
+    rw c.new-run.ensures (lit< tt, begins_at x.program.now x.start x.budget x.state.now x.trace.now x.watches.now _ c.requires c.begin.ensures)
 
 pub returns-then-budget-run : goal.returns-then-budget-run
 returns-then-budget-run c =
     let x = c.args in
     let l = c.loop-run in
-    ends_spent x.program.now x.start x.budget x.state.now x.trace.now x.watches.now l.run l.state l.trace l.watches l.invariant.1 c.loop-run-test.true c.if-budget-run.true
-
-pub step-stepped-requires : goal.step-stepped-requires
-step-stepped-requires c =
-    let l = c.loop-run in
-    let i = l.invariant.1 in
-    (c.all_masks-masks.ensures, c.all_weights-weights.ensures, omega (arith, i.few), omega arith, l.invariant.0, omega (arith, i.wide))
+    rw c.spent.ensures (ends_spent x.program.now x.start x.budget x.state.now x.trace.now x.watches.now l.run l.state l.trace l.watches l.invariant.1 c.loop-run-test.true c.if-budget-run.true)
 
 pub loop-run-smaller : goal.loop-run-smaller
 loop-run-smaller c =
@@ -41,4 +35,4 @@ pub returns : goal.returns
 returns c =
     let x = c.args in
     let l = c.loop-run in
-    ends_halted x.program.now x.start x.budget x.state.now x.trace.now x.watches.now l.run l.state l.trace l.watches l.invariant.1 c.loop-run-test.false
+    rw c.halted.ensures (ends_halted x.program.now x.start x.budget x.state.now x.trace.now x.watches.now l.run l.state l.trace l.watches l.invariant.1 c.loop-run-test.false)

@@ -12,11 +12,11 @@ use Rattle.model.specs.declared.Operand.{Operand}
 use Rattle.model.proofs.TestLaws.{holds, and_both}
 use Rattle.model.specs.Step.{distance}
 use Rattle.model.specs.Stored.{operand_of}
-use Rattle.sets.specs.Walk.{Sets, max_values, listed, lists_of, values, base}
+use Rattle.sets.specs.Walk.{Sets, lists_of, values, base}
 use Rattle.sets.specs.Addresses.{address_by, reached}
 use Rattle.choices.specs.Gathering.{all_at}
 use Rattle.choices.specs.Bus.{all_met, met_by}
-use Rattle.choices.proofs.SetBytes.{listed-few, listed_at, map_at_lem}
+use Rattle.choices.proofs.SetBytes.{map_at_lem}
 use Rattle.choices.proofs.Turns.{met_over, met_next, not_met}
 use Rattle.choices.proofs.bus.are_met.Goals as goal
 
@@ -59,57 +59,38 @@ module _ (S : Sets) (o : Operand) where
       go (b ∷ []) [] h g = absurd (omega arith)
       go (b ∷ []) (x ∷ y ∷ xs) h g = absurd (omega arith)
 
-pub size_of-n-requires : goal.size_of-n-requires
-size_of-n-requires c = c.requires.0
-
-pub bounds-bus-0 : goal.bounds-bus-0
-bounds-bus-0 c = omega (arith, c.requires.2)
-
 pub returns-then-is_alone : goal.returns-then-is_alone
 returns-then-is_alone c =
     let S = lists_of c.args.sets.now in
     let b = c.args.bus.now in
     let h = holds (sym c.is_alone.ensures ∙ c.if-is_alone.true) in
-    let q = and_both (ltb c.size_of-n.result 2) (ltb (get_or b 0 0) 2) h in
-    alone S (operand_of c.args.code) (listed b) (omega (arith, c.requires.3, listed-few b max_values c.requires.2 c.requires.4, ltb→lt (get_or b 0 0) 2 q.1))
-    (rw (← c.base_of-at.ensures) (omega (arith, c.requires.1 c.base_of-at.result, c.size_of-n.ensures, ltb→lt c.size_of-n.result 2 q.0)))
-
-pub bounds-bus-1 : goal.bounds-bus-1
-bounds-bus-1 c = omega (arith, c.requires.2)
-
-pub value_of-requires : goal.value_of-requires
-value_of-requires c = (c.requires.0, c.requires.1 c.base_of-at.result)
+    let q = and_both (ltb c.size_of-n.result 2) (ltb c.count.result 2) h in
+    alone S (operand_of c.args.code) b (omega (arith, c.requires.1, c.count.ensures, ltb→lt c.count.result 2 q.1))
+    (rw (← c.base_of-at.ensures) (omega (arith, c.requires.0 c.base_of-at.result, c.size_of-n.ensures, ltb→lt c.size_of-n.result 2 q.0)))
 
 pub loop-j-init : goal.loop-j-init
 loop-j-init c =
     let b = c.args.bus.now in
     let xs = reached (lists_of c.args.sets.now) (operand_of c.args.code) in
-    let v = listed_at b max_values c.requires.2 0 c.requires.3 in
-    let a = reached-at (lists_of c.args.sets.now) (operand_of c.args.code) 0 (rw (← c.base_of-at.ensures) (c.requires.1 c.base_of-at.result)) c.base_of-at.ensures c.value_of.ensures c.address_by.ensures in
-    ap (λ (d : ℕ). all_met d (listed b) xs) (c.distance-first.ensures ∙ ap₂ distance (sym v) a)
-
-pub value_of-requires-in-loop-j : goal.value_of-requires-in-loop-j
-value_of-requires-in-loop-j c = (c.requires.0, omega (arith, c.size_of-n.ensures))
-
-pub is_apart-requires : goal.is_apart-requires
-is_apart-requires c = (c.requires.2, c.requires.4)
+    let a = reached-at (lists_of c.args.sets.now) (operand_of c.args.code) 0 (rw (← c.base_of-at.ensures) (c.requires.0 c.base_of-at.result)) c.base_of-at.ensures c.value_of.ensures c.address_by.ensures in
+    ap (λ (d : ℕ). all_met d b xs) (c.distance-first.ensures ∙ ap₂ distance c.first.ensures a)
 
 pub returns-then-not-is_apart : goal.returns-then-not-is_apart
 returns-then-not-is_apart c =
     let S = lists_of c.args.sets.now in
     let o = operand_of c.args.code in
     let h : c.loop-j.j < length (values S (base o)) = rw (← c.base_of-at.ensures) (omega (arith, c.size_of-n.ensures)) in
-    ends S o (listed c.args.bus.now) c.distance-first.result c.loop-j.j h (reached-at S o c.loop-j.j h c.base_of-at.ensures c.value_of-in-loop-j.ensures c.address_by-in-loop-j.ensures) c.is_apart.ensures c.if-not-is_apart.true c.loop-j.invariant
+    ends S o c.args.bus.now c.distance-first.result c.loop-j.j h (reached-at S o c.loop-j.j h c.base_of-at.ensures c.value_of-in-loop-j.ensures c.address_by-in-loop-j.ensures) c.is_apart.ensures c.if-not-is_apart.true c.loop-j.invariant
 
 pub loop-j-preserved : goal.loop-j-preserved
 loop-j-preserved c =
     let S = lists_of c.args.sets.now in
     let o = operand_of c.args.code in
     let h : c.loop-j.j < length (values S (base o)) = rw (← c.base_of-at.ensures) (omega (arith, c.size_of-n.ensures)) in
-    goes_on S o (listed c.args.bus.now) c.distance-first.result c.loop-j.j h (reached-at S o c.loop-j.j h c.base_of-at.ensures c.value_of-in-loop-j.ensures c.address_by-in-loop-j.ensures) c.is_apart.ensures c.if-not-is_apart.false c.loop-j.invariant
+    goes_on S o c.args.bus.now c.distance-first.result c.loop-j.j h (reached-at S o c.loop-j.j h c.base_of-at.ensures c.value_of-in-loop-j.ensures c.address_by-in-loop-j.ensures) c.is_apart.ensures c.if-not-is_apart.false c.loop-j.invariant
 
 pub returns : goal.returns
 returns c =
     let S = lists_of c.args.sets.now in
     let o = operand_of c.args.code in
-    over S o (listed c.args.bus.now) c.distance-first.result c.loop-j.j (rw (← c.base_of-at.ensures) (omega (arith, c.size_of-n.ensures))) c.loop-j.invariant
+    over S o c.args.bus.now c.distance-first.result c.loop-j.j (rw (← c.base_of-at.ensures) (omega (arith, c.size_of-n.ensures))) c.loop-j.invariant

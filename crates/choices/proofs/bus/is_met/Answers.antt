@@ -6,7 +6,7 @@ use Prim.Native.Nat.{ℕ}
 use Rattle.model.specs.declared.Line.{Line}
 use Rattle.model.specs.Places.{has_address}
 use Rattle.model.specs.Stored.{operand_of}
-use Rattle.sets.specs.Walk.{Sets, listed, lists_of}
+use Rattle.sets.specs.Walk.{Sets, lists_of}
 use Rattle.sets.specs.Addresses.{reached, first_addressed}
 use Rattle.choices.specs.Gathering.{line_by}
 use Rattle.choices.specs.Bus.{met_by, meets}
@@ -21,7 +21,7 @@ unfolding meets
 quiet S bus l h = rw h
 
 pub returns-in-Some : goal.returns-in-Some
-returns-in-Some c = met (lists_of c.args.sets.now) (listed c.args.bus.now) (line_by c.args.line.now) c.in-Some.code c.in-Some.ensures c.are_met.ensures
+returns-in-Some c = met (lists_of c.args.sets.now) c.args.bus.now (line_by c.args.line.now) c.in-Some.code c.in-Some.ensures c.are_met.ensures
 
 pub returns-in-None : goal.returns-in-None
-returns-in-None c = quiet (lists_of c.args.sets.now) (listed c.args.bus.now) (line_by c.args.line.now) c.in-None.ensures
+returns-in-None c = quiet (lists_of c.args.sets.now) c.args.bus.now (line_by c.args.line.now) c.in-None.ensures

@@ -20,7 +20,7 @@ unfolding leads
 left S bus l h = rw h
 
 pub returns-in-Some : goal.returns-in-Some
-returns-in-Some c = (moved (lists_of c.args.sets.now) _ (line_by c.args.line.now) c.in-Some.code c.in-Some.ensures c.reach.ensures.0, c.reach.ensures.1)
+returns-in-Some c = moved (lists_of c.args.sets.now) _ (line_by c.args.line.now) c.in-Some.code c.in-Some.ensures c.reach.ensures
 
 pub returns-in_default : goal.returns-in_default
-returns-in_default c = (left (lists_of c.args.sets.now) _ (line_by c.args.line.now) c.in_default.ensures, c.requires.3)
+returns-in_default c = left (lists_of c.args.sets.now) _ (line_by c.args.line.now) c.in_default.ensures

@@ -1,11 +1,11 @@
 -- `choices::bus::reach` meets its contract. The loop's invariant: the bus lists the addresses of the first j values. Assumes nothing.
 use mathlib.Core.Path.{◌≡◌}
 use mathlib.Core.List.{map}
-use lib.ListN.{length, get_or, take}
+use lib.ListN.{take}
 use Rattle.model.specs.Stored.{operand_of}
-use Rattle.sets.specs.Walk.{set_width, listed, lists_of, values}
+use Rattle.sets.specs.Walk.{lists_of, values}
 use Rattle.sets.specs.Addresses.{address_by}
 use Rattle.choices.proofs.bus.reach.Given as goal
 
 abbrev pub invariant-loop-j : goal.invariant-loop-j
-invariant-loop-j l = (length l.bus ≡ set_width) × (get_or l.bus 0 0 ≡ l.j) × (listed l.bus ≡ map (address_by (operand_of l.code)) (take l.j (values (lists_of l.sets) l.at)))
+invariant-loop-j l = l.bus ≡ map (address_by (operand_of l.code)) (take l.j (values (lists_of l.sets) l.at))

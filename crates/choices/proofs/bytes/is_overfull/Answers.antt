@@ -9,5 +9,4 @@ use Rattle.choices.proofs.bytes.is_overfull.Goals as goal
 pub returns : goal.returns
 returns c =
     let x = c.args in
-    let p = c.requires in
-    ap (λ (n : ℕ). ltb max_values n) (sym (listed-few x.found.now set_width p.0 p.1))
+    ap (λ (n : ℕ). ltb max_values n) (sym (listed-few x.found.now set_width c.told-found c.requires))

@@ -29,7 +29,7 @@ module _ (f : List ℕ) (x : ℕ) (l : length f ≡ suc set_width) (h : get_or f
   count = omega (arith, get_or-set_same (set f (1 + get_or f 0 0) x) 0 (get_or f 0 0 + 1) 0 (omega (arith, length-set f (1 + get_or f 0 0) x)))
 
 pub returns-then-is_member : goal.returns-then-is_member
-returns-then-is_member c = (old _ _ (sym c.is_member.ensures ∙ c.if-is_member.true), omega (arith, c.requires.1))
+returns-then-is_member c = (old _ _ (sym c.is_member.ensures ∙ c.if-is_member.true), omega (arith, c.requires))
 
 pub returns : goal.returns
-returns c = (new c.args.found.now c.args.x c.requires.0 c.requires.1 (sym c.is_member.ensures ∙ c.if-is_member.false), count c.args.found.now c.args.x c.requires.0 c.requires.1)
+returns c = (new c.args.found.now c.args.x c.told-found c.requires (sym c.is_member.ensures ∙ c.if-is_member.false), count c.args.found.now c.args.x c.told-found c.requires)

@@ -8,4 +8,4 @@ pub returns-then-i-ge-STATE_SIZE : goal.returns-then-i-ge-STATE_SIZE
 returns-then-i-ge-STATE_SIZE c = sym (ap length (values-past _ _ c.if-i-ge-STATE_SIZE.true))
 
 pub returns : goal.returns
-returns c = c.min.ensures ∙ size_at c.args.sets.now c.requires c.args.i c.if-i-ge-STATE_SIZE.false
+returns c = c.min.ensures ∙ size_at c.args.sets.now c.told-sets c.args.i c.if-i-ge-STATE_SIZE.false

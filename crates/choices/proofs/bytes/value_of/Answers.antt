@@ -13,13 +13,13 @@ only_zero xs j e h =
     sym (ap (λ (ys : List ℕ). get_or ys j 0) e ∙ ap (λ (k : ℕ). get_or (0 ∷ []) k 0) z)
 
 pub returns-then-i-ge-STATE_SIZE : goal.returns-then-i-ge-STATE_SIZE
-returns-then-i-ge-STATE_SIZE c = only_zero _ _ (values-past _ _ c.if-i-ge-STATE_SIZE.true) c.requires.1
+returns-then-i-ge-STATE_SIZE c = only_zero _ _ (values-past _ _ c.if-i-ge-STATE_SIZE.true) c.requires
 
 pub overflow_add-result-2 : goal.overflow_add-result-2
-overflow_add-result-2 c = omega (arith, values_le c.args.sets.now c.requires.0 c.args.i c.if-i-ge-STATE_SIZE.false, c.requires.1)
+overflow_add-result-2 c = omega (arith, values_le c.args.sets.now c.told-sets c.args.i c.if-i-ge-STATE_SIZE.false, c.requires)
 
 pub bounds-sets-i : goal.bounds-sets-i
-bounds-sets-i c = omega (arith, values_le c.args.sets.now c.requires.0 c.args.i c.if-i-ge-STATE_SIZE.false, c.requires.0, c.requires.1)
+bounds-sets-i c = omega (arith, values_le c.args.sets.now c.told-sets c.args.i c.if-i-ge-STATE_SIZE.false, c.told-sets, c.requires)
 
 pub returns : goal.returns
-returns c = value_at _ c.requires.0 _ c.if-i-ge-STATE_SIZE.false _ c.requires.1
+returns c = value_at _ c.told-sets _ c.if-i-ge-STATE_SIZE.false _ c.requires

@@ -3,13 +3,12 @@ use mathlib.Core.Path.{ap, ◌∙◌}
 use Prim.Native.Nat.{ℕ}
 use mathlib.Core.List.{List, [], ◌∷◌, ◌++◌}
 use mathlib.Core.Bool.{Bool}
-use lib.ListN.{get_or}
 use native.Mathlib.Omega.{arith}
 use Rattle.published.specs.Published.{instruction_text, label_line}
 use Rattle.model.specs.Text.{newline}
-use Rattle.model.specs.Stored.{line_of, lines_from}
+use Rattle.model.specs.Stored.{line_at}
 use Rattle.printing.proofs.WroteLaws.{then, as_text}
-use Rattle.published.proofs.SendLaws.{printed_none, printed-next, printed_all, any_mark, used_is}
+use Rattle.published.proofs.SendLaws.{printed_none, printed-next, printed_all}
 use Rattle.published.proofs.sending.print.Goals as goal
 
 pub loop-i-init : goal.loop-i-init
@@ -34,8 +33,8 @@ loop-i-preserved c =
     let in-range = c.loop-i-test.true in
     printed-next p c.args.out.now c.loop-i.out c.args.n c.loop-i.at i c.loop-i.invariant in-range
     (then
-    (as_text (ap (λ (t : Bool). label_line t i) (used_is (lines_from p 0 c.args.n) c.args.used.now i c.requires.2 (omega (arith, c.requires.0, in-range)))) c.put_label-named.ensures)
-    (as_text (ap (λ (l : List ℕ). instruction_text (line_of 0 (get_or l 1 0) (get_or l 2 0) (get_or l 3 0) (get_or l 4 0) (get_or l 5 0)) ++ (newline ∷ [])) c.numbers_at-l.ensures ∙ any_mark p i) c.put_instruction-at.ensures))
+    (as_text (ap (λ (t : Bool). label_line t i) (c.requires.2 i (omega (arith, c.requires.0, in-range)))) c.put_label-named.ensures)
+    (as_text (ap (λ (l : List ℕ). instruction_text (line_at l 0) ++ (newline ∷ [])) c.numbers_at.ensures) c.put_instruction-at.ensures))
     (c.put_instruction-at.auto.out ∙ c.put_label-named.auto.out)
 
 pub bounds-used-n : goal.bounds-used-n
@@ -55,4 +54,4 @@ returns c =
     let p = c.args.program.now in
     let n = c.args.n in
     printed_all p c.args.out.now c.loop-i.out n c.loop-i.at c.loop-i.i c.loop-i.invariant c.loop-i-test.false
-    (as_text (ap (λ (t : Bool). label_line t n) (used_is (lines_from p 0 n) c.args.used.now n c.requires.2 c.requires.0)) c.put_label.ensures)
+    (as_text (ap (λ (t : Bool). label_line t n) (c.requires.2 n c.requires.0)) c.put_label.ensures)

@@ -1,5 +1,5 @@
 -- `published::sending::publish` meets its contract: that the text fits is known before a byte is written. Assumes nothing.
-use mathlib.Core.Bool.{true}
+use mathlib.Core.Bool.{Bool, true, false}
 use lib.Dec.{leb}
 use mathlib.Core.Path.{◌≡◌, sym, ap₂, ◌∙◌}
 use Prim.Native.Nat.{ℕ, ◌+◌}
@@ -24,13 +24,13 @@ returns-in_err-check c =
     rw (p.1, p.2) (publish_refused c.args.program.now c.args.out.now _ _ c.in_err-check.was c.check.ensures)
 
 pub mark_targets-requires : goal.mark_targets-requires
-mark_targets-requires c = (length-replicate {A = ℕ} (max_accepted + 1) 0, none_used (max_accepted + 1))
+mark_targets-requires c = (length-replicate {A = Bool} (max_accepted + 1) false, none_used (max_accepted + 1))
 
 pub fits-requires : goal.fits-requires
-fits-requires c = (publish_few c.args.program.now c.args.out.now _ (count-told c.in_ok-check.was c.check.ensures), omega (arith, c.mark_targets.auto.used, length-replicate {A = ℕ} (max_accepted + 1) 0), c.mark_targets.ensures)
+fits-requires c = (publish_few c.args.program.now c.args.out.now _ (count-told c.in_ok-check.was c.check.ensures), omega (arith, c.mark_targets.auto.used, length-replicate {A = Bool} (max_accepted + 1) false), c.mark_targets.ensures)
 
 pub print-requires : goal.print-requires
-print-requires c = (publish_few c.args.program.now c.args.out.now _ (count-told c.in_ok-check.was c.check.ensures), omega (arith, c.mark_targets.auto.used, length-replicate {A = ℕ} (max_accepted + 1) 0), c.mark_targets.ensures)
+print-requires c = (publish_few c.args.program.now c.args.out.now _ (count-told c.in_ok-check.was c.check.ensures), omega (arith, c.mark_targets.auto.used, length-replicate {A = Bool} (max_accepted + 1) false), c.mark_targets.ensures)
 
 pub returns-then-not-fits : goal.returns-then-not-fits
 unfolding published

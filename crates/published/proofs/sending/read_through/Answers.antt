@@ -2,9 +2,9 @@
 use mathlib.Core.Path.{sym, ap, ◌∙◌}
 use native.Mathlib.Omega.{arith}
 use Rattle.text.proofs.PartLaws.{after_first}
-use Rattle.text.specs.Lines.{numbers_of, meaning}
+use Rattle.text.specs.Lines.{meaning}
 use Rattle.model.specs.Text.{newline}
-use Rattle.published.proofs.LongTexts.{through_first, through_done, through_full, through_stop, through_next}
+use Rattle.published.proofs.LongTexts.{through_first, through_done, through_full, through_stop, through_read}
 use Rattle.published.proofs.sending.read_through.Goals as goal
 
 pub loop-rest-init : goal.loop-rest-init
@@ -16,11 +16,11 @@ overflow_cast-result c = omega (arith, c.loop-rest.invariant.few)
 pub returns-then-n-ge-MAX_LINES : goal.returns-then-n-ge-MAX_LINES
 returns-then-n-ge-MAX_LINES c = through_full c.args.text.now c.loop-rest.rest.now c.loop-rest.n c.loop-rest.invariant c.loop-rest-test.true c.if-n-ge-MAX_LINES.true
 
-pub overflow_cast-result-in_default : goal.overflow_cast-result-in_default
-overflow_cast-result-in_default c = omega (arith, c.loop-rest.invariant.few)
+pub overflow_cast-result-in-Err : goal.overflow_cast-result-in-Err
+overflow_cast-result-in-Err c = omega (arith, c.loop-rest.invariant.few)
 
-pub returns-in_default : goal.returns-in_default
-returns-in_default c = through_stop c.args.text.now c.loop-rest.rest.now c.loop-rest.n c.loop-rest.invariant c.loop-rest-test.true c.if-n-ge-MAX_LINES.false _ (sym c.front_at-got.ensures ∙ ap meaning c.unwrap_err.ensures)
+pub returns-in-Err : goal.returns-in-Err
+returns-in-Err c = through_stop c.args.text.now c.loop-rest.rest.now c.loop-rest.n c.loop-rest.invariant c.loop-rest-test.true c.if-n-ge-MAX_LINES.false _ (sym c.front_at.ensures ∙ ap meaning c.in-Err.is)
 
 pub overflow_add-n : goal.overflow_add-n
 overflow_add-n c = omega (arith, c.if-n-ge-MAX_LINES.false)
@@ -29,7 +29,7 @@ pub loop-rest-smaller : goal.loop-rest-smaller
 loop-rest-smaller c = omega (arith, c.if-n-ge-MAX_LINES.false)
 
 pub loop-rest-preserved : goal.loop-rest-preserved
-loop-rest-preserved c = through_next c.args.text.now c.loop-rest.rest.now c.loop-rest.n c.loop-rest.invariant c.loop-rest-test.true c.if-n-ge-MAX_LINES.false (numbers_of c.in-Ok.field-0) _ (sym c.front_at-got.ensures ∙ ap meaning c.in-Ok.is) (c.beyond-rest.ensures ∙ after_first newline c.loop-rest.rest.now c.find.result c.find.ensures.0)
+loop-rest-preserved c = through_read c.args.text.now c.loop-rest.rest.now c.loop-rest.n c.loop-rest.invariant c.loop-rest-test.true c.if-n-ge-MAX_LINES.false c.front_at.result c.in_default.not-Err _ (sym c.front_at.ensures) (c.beyond-rest.ensures ∙ after_first newline c.loop-rest.rest.now c.find.result c.find.ensures.0)
 
 pub overflow_cast-result-2 : goal.overflow_cast-result-2
 overflow_cast-result-2 c = omega (arith, c.loop-rest.invariant.few)

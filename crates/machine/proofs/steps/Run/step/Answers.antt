@@ -7,9 +7,6 @@ use Rattle.model.specs.Stored.{line_at}
 use Rattle.machine.proofs.Performed.{same_line, one_step}
 use Rattle.machine.proofs.steps.Run.step.Goals as goal
 
-pub perform-done-requires : goal.perform-done-requires
-perform-done-requires c = let p = c.requires in (p.2, p.0, p.1, p.4)
-
 pub returns : goal.returns
 returns c =
     let a = c.args in record {

@@ -14,34 +14,13 @@ bounds-self-h c = omega (arith, c.requires.1, c.args.self.now.linked.head_room)
 pub loop-k-init : goal.loop-k-init
 loop-k-init c = sought_first c.args.self.now.text.now c.args.self.now.heads c.args.self.now.table c.args.self.now.count c.args.name.now c.args.self.now.linked c.args.h c.requires.0 c.requires.1
 
-pub overflow_mul-at : goal.overflow_mul-at
-overflow_mul-at c = omega (arith, c.args.self.now.linked.few, c.loop-k.invariant.few)
-
-pub bounds-self-at : goal.bounds-self-at
-bounds-self-at c = omega (arith, c.args.self.now.linked.few, c.args.self.now.linked.room, c.loop-k.invariant.few, c.loop-k-test.true)
-
-pub overflow_add-at : goal.overflow_add-at
-overflow_add-at c = omega (arith, c.args.self.now.linked.few, c.loop-k.invariant.few)
-
-pub bounds-self-at-in-loop-k : goal.bounds-self-at-in-loop-k
-bounds-self-at-in-loop-k c = omega (arith, c.args.self.now.linked.few, c.args.self.now.linked.room, c.loop-k.invariant.few, c.loop-k-test.true)
-
-pub overflow_add-result : goal.overflow_add-result
-overflow_add-result c = omega (arith, c.args.self.now.linked.few, c.loop-k.invariant.few)
-
-pub bounds-self-at-then-eq : goal.bounds-self-at-then-eq
-bounds-self-at-then-eq c = omega (arith, c.args.self.now.linked.few, c.args.self.now.linked.room, c.loop-k.invariant.few, c.loop-k-test.true)
+pub bounds-self-k : goal.bounds-self-k
+bounds-self-k c = omega (arith, c.args.self.now.linked.few, c.args.self.now.linked.room, c.loop-k.invariant.few, c.loop-k-test.true)
 
 pub returns-then-eq : goal.returns-then-eq
 returns-then-eq c =
     let e = ap (λ (l : List ℕ). same_bytes l c.args.name.now) (sym (c.part.ensures ∙ entry_name c.args.self.now.text.now c.args.self.now.table (c.loop-k.k - 1))) ∙ sym (c.eq.ensures ∙ same_bytes_is c.part.result.now c.args.name.now) ∙ c.if-eq.true in
     sought_there c.args.self.now.text.now c.args.self.now.heads c.args.self.now.table c.args.self.now.count c.args.name.now c.args.self.now.linked c.loop-k.k c.loop-k.invariant c.loop-k-test.true e
-
-pub overflow_add-k : goal.overflow_add-k
-overflow_add-k c = omega (arith, c.args.self.now.linked.few, c.loop-k.invariant.few)
-
-pub bounds-self-at-in-loop-k-2 : goal.bounds-self-at-in-loop-k-2
-bounds-self-at-in-loop-k-2 c = omega (arith, c.args.self.now.linked.few, c.args.self.now.linked.room, c.loop-k.invariant.few, c.loop-k-test.true)
 
 pub loop-k-smaller : goal.loop-k-smaller
 loop-k-smaller c = sought_less c.args.self.now.text.now c.args.self.now.heads c.args.self.now.table c.args.self.now.count c.args.name.now c.args.self.now.linked c.loop-k.k c.loop-k.invariant c.loop-k-test.true

@@ -1,8 +1,0 @@
--- `verdict::input_room` meets its contract: the length of an array of one value, which is not counted. Assumes nothing.
-use Prim.Native.Nat.{ℕ, ◌+◌}
-use lib.ListN.{length-replicate}
-use Rattle.verdicts.specs.Verdicts.{verdict_size}
-use Rattle.verdict.proofs.input_room.Goals as goal
-
-pub returns : goal.returns
-returns c = length-replicate {A = ℕ} (verdict_size + 1) 0
