@@ -1,17 +1,15 @@
 -- Loops, one turn at a time: what is left decides as the whole does.
 -- Assumes nothing.
-use mathlib.Core.Path.{◌≡◌, refl, sym, ap, ap₂, ◌∙◌}
-use mathlib.Core.Bool.{Bool, true, false, ◌&&◌, ◌||◌}
-use mathlib.Core.List.{List, [], ◌∷◌}
+use mathlib.Core.Path.{◌≡◌, sym, ap, ◌∙◌}
+use mathlib.Core.Bool.{Bool, true, false, ◌&&◌}
+use mathlib.Core.List.{List}
 use Prim.Native.Nat.{ℕ, suc, ◌+◌, ◌*◌, ◌-◌, ◌≤◌, ◌<◌}
-use native.Mathlib.Decide.{ℕ_discrete}
 use native.Mathlib.Numerals.{add-one}
 use native.Mathlib.Omega.{arith}
 use borrow.Author.Tests.{eq-eqb, ne_eqb, lt-ltb, le-leb, lt-leb}
-use lib.Dec.{eqb, ltb, leb}
+use lib.Dec.{ltb, leb}
 use lib.ListN.{length, get_or, drop, drop_of_length-le}
 use lib.Seq.{drop-cons, drop-drop, get_or-drop}
-use Rattle.std.specs.List.{list_any}
 use Rattle.model.specs.Limits.{state_size}
 use Rattle.model.specs.Step.{Row, distance}
 use Rattle.sets.specs.Walk.{max_values, set_width, sized, member, insert, insert_all, same_row}
@@ -20,17 +18,21 @@ use Rattle.choices.specs.Bus.{all_met}
 
 -- ---- the values of a list
 
--- whether x is among them
-pub any_member : (x : ℕ) (xs : List ℕ) → list_any (λ y. eqb y x) xs ≡ member x xs
-unfolding member
-any_member x [] = refl
-any_member x (y ∷ xs) = ap₂ ◌||◌ (go (ℕ_discrete y x)) (any_member x xs)
-  where
-    go : Dec (y ≡ x) → eqb y x ≡ eqb x y
-    go (yes e) = rw e
-    go (no n) = ne_eqb y x n ∙ sym (ne_eqb x y (λ e. n (sym e)))
-
 module _ (xs : List ℕ) (j : ℕ) where
+  -- whether x is among them
+  module _ (x : ℕ) where
+    pub none_over : length xs ≤ j → member x (drop j xs) ≡ false
+    unfolding member
+    none_over h = rw (drop_of_length-le xs h)
+
+    pub none_next : j < length xs → (get_or xs j 0 ≡ x → ⊥) → member x (drop j xs) ≡ member x (drop (j + 1) xs)
+    unfolding member
+    none_next h e = rw (drop-cons xs j 0 h, ne_eqb x (get_or xs j 0) (λ q. e (sym q)), add-one j)
+
+    pub one_there : j < length xs → get_or xs j 0 ≡ x → member x (drop j xs) ≡ true
+    unfolding member
+    one_there h e = rw (drop-cons xs j 0 h, eq-eqb x (get_or xs j 0) (sym e))
+
   -- whether all are at the distance d from x
   module _ (d x : ℕ) where
     pub all_over : length xs ≤ j → all_at d x (drop j xs) ≡ true

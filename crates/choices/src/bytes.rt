@@ -50,11 +50,18 @@ pub fn put_set(sets: &mut [u8; SETS_SIZE], i: usize, new: &[u8; ROOM])
 }
 
 // Whether x is among the values that are being gathered.
+// An index loop: with `contains` the walk over an expansion takes 1.23 times plain C where 1.2 is the goal, with a loop over the slice that of
+// 24,576 choices without a leak 1.26; with this they take 1.17 and 0.99.
 fn is_member(found: &[u8; ROOM], x: u8) -> bool
     requires { get_or found.now 0 0 ≤ set_width }
     ensures { result ≡ member x (listed found.now) }
 {
-    found[1..=found[0] as usize].contains(&x)
+    for j in 0..found[0] as usize {
+        if found[1 + j] == x {
+            return true;
+        }
+    }
+    false
 }
 
 // A value more, behind the others, where it is new.
