@@ -1,6 +1,6 @@
 // What the crates of the programs share: room, whose length is known without counting it, and the way from standard input to standard
 // output.
-ghost use Rattle.std.specs.Prelude.{◌≡◌, ℕ, ◌≤◌, length, get_or};
+ghost use Rattle.std.specs.Prelude.{◌≡◌, ◌⊎◌, ℕ, ◌≤◌, length, get_or};
 ghost use Rattle.model.specs.Answers.{report, counted};
 
 use model::Refusal;
@@ -23,6 +23,7 @@ pub fn room<const N: usize>() -> [u16; N]
 }
 
 // A program: reads at most the room for its input, has the text of that printed, and writes what was printed.
+// The room for output is left as it was where reading fails, and else as `print` leaves it.
 pub fn convert<F: FnOnce(&[u8], &mut [u8]) -> Result<u32, Refusal>>(
     reader: impl Read + Drop,
     mut writer: impl Write + Drop,
@@ -32,6 +33,7 @@ pub fn convert<F: FnOnce(&[u8], &mut [u8]) -> Result<u32, Refusal>>(
 ) -> io::Result<()>
     requires callable { F.IsAlwaysCallable print }
     requires fits { (text : _) (into : _) (answer : _) (printed : _) (n : ℕ) → F.post print text into answer printed → report answer ≡ counted n → n ≤ length printed.now }
+    ensures printed { (output.new ≡ output.old) ⊎ ((text : _) × (into : _) × (answer : _) × (printed : _) × F.post print text into answer printed × (into.now ≡ output.old) × (printed.now ≡ output.new)) }
 {
     let room = input.len();
     let n = io::copy(&mut reader.take(room as u64), &mut &mut input[..])?;

@@ -38,7 +38,9 @@ pub struct Masks {
 }
 
 impl Masks {
-    pub fn all() -> Self {
+    pub fn all() -> Self
+        ensures { ByPlace mask result.by_place }
+    {
         Masks {
             by_place: std::array::from_fn(mask_at),
         }
@@ -87,7 +89,9 @@ pub struct Weights {
 }
 
 impl Weights {
-    pub fn all() -> Self {
+    pub fn all() -> Self
+        ensures { ByPlace (λ i. weight (address_at i)) result.by_place }
+    {
         Weights {
             by_place: std::array::from_fn(address_weight),
         }
