@@ -16,6 +16,7 @@ fn main(rt: HostRuntime) -> io::Result<()> {
     convert(
         rt.stdin(),
         rt.stdout(),
+        filters::INPUT_SIZE,
         &mut filled::<u8, INPUT_ROOM>(0),
         &mut filled::<u8, OUTPUT_ROOM>(0),
         filters::print_sent,
