@@ -2,7 +2,7 @@
 -- Assumes nothing.
 use mathlib.Core.Path.{◌≡◌, refl, sym, ap, ◌∙◌}
 use mathlib.Core.Bool.{true, false}
-use mathlib.Core.List.{List, [], ◌∷◌, ◌++◌, map}
+use mathlib.Core.List.{List, [], ◌∷◌, map}
 use Prim.Native.Nat.{ℕ, ◌-◌, ◌^◌, ◌<◌, ◌≤◌}
 use native.Mathlib.Nat.{zero-add}
 use native.Mathlib.Omega.{arith}
@@ -10,15 +10,14 @@ use borrow.Author.Tests.{lt-ltb, le-ltb}
 use lib.Dec.{ltb}
 use lib.IntN.{ℤ, pos}
 use lib.ListN.{length, take, drop, replicate, length-map}
-use lib.Seq.{get_or-take, length-take-le, take_all}
-use Rattle.std.proofs.lemmas.List.{take-append-le}
+use lib.Seq.{get_or-take, length-take-le}
 use Rattle.model.specs.Answers.{counted, refused, outcome}
 use Rattle.codewords.specs.Codewords.{inputs_right, words, words_from, before, sorted, ranking, run, lowest, start, best, choose_check, set_of, choose_outcome}
-use Rattle.codewords.specs.Claims.{Every, Word}
+use Rattle.codewords.specs.Claims.{Every, Distinct, Word}
 use Rattle.codewords.specs.Keys.{key, word_of, Keyed, with_ones, rise}
 use Rattle.codewords.proofs.Lists.{every_map, every_take, every_drop, sorted-length}
 use Rattle.codewords.proofs.Ranges.{Given, Inputs, inputs_say}
-use Rattle.codewords.proofs.Rankings.{a_byte, ranking-words, keys_sorted, map-take, map-drop, start_is}
+use Rattle.codewords.proofs.Rankings.{a_byte, ranking-words, keys_sorted, keys_distinct, map-take, map-drop, start_is}
 use Rattle.codewords.proofs.Signals.{key_word}
 use Rattle.codewords.proofs.Words.{at_most_seventy, from_keys}
 
@@ -27,8 +26,9 @@ use Rattle.codewords.proofs.Words.{at_most_seventy, from_keys}
 pub record Kept (n k : ℕ) (weights : List ℤ) (m : ℕ) (kept : List ℕ) : Type 0 where
   pub long : length (take m kept) ≡ m
   pub few : m ≤ 70
-  pub ranked : (front rest : List ℕ) → front ≡ sorted ltb (take m kept)
-      → (m ≡ length (ranking n k weights)) × (take m (front ++ rest) ≡ map (key weights) (ranking n k weights))
+  pub distinct : Distinct (take m kept)
+  pub ranked : (into : List ℕ) → take (length (take m kept)) into ≡ sorted ltb (take m kept)
+      → (m ≡ length (ranking n k weights)) × (take m into ≡ map (key weights) (ranking n k weights))
 
 module _ (n k : ℕ) (weights : List ℤ) (s : Given n weights) where
   pub count_ranked : length (ranking n k weights) ≡ length (words n k)
@@ -55,11 +55,11 @@ module _ (n k : ℕ) (weights : List ℤ) (s : Given n weights) where
         record {
           long = l;
           few = omega (arith, kept-few);
-          ranked = λ front rest r.
-              let f : length front ≡ m = ap length r ∙ sorted-length ltb (take m kept) ∙ l in (
-                c.0 ∙ kept-count ∙ sym count_ranked,
-                take-append-le m front rest (omega arith) ∙ take_all m front (omega arith) ∙ r ∙ ap (sorted ltb) (c.1 ∙ kept_keys) ∙ sym (keys_sorted n k weights s),
-              );
+          distinct = rw (c.1, kept_keys) (keys_distinct n k weights s);
+          ranked = λ into r. (
+            c.0 ∙ kept-count ∙ sym count_ranked,
+            ap (λ (j : ℕ). take j into) (sym l) ∙ r ∙ ap (sorted ltb) (c.1 ∙ kept_keys) ∙ sym (keys_sorted n k weights s),
+          );
         }
 
 -- ---- the answers

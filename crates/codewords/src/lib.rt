@@ -9,7 +9,7 @@ ghost use Rattle.codewords.specs.Codewords.{weights_right, size_right, inputs_ri
 ghost use Rattle.codewords.specs.Claims.{Choice};
 ghost use Rattle.codewords.specs.Keys.{word_of};
 
-use keys::{WORDS, lowest_run, raised_at, rank_words};
+use keys::{KEYS, lowest_run, raised_at, rank_words};
 use model::{Condition, Refusal};
 
 mod keys;
@@ -87,7 +87,7 @@ pub fn choose(bits: u8, ones: u8, size: u8, weights: &[i16]) -> Chosen
     if !inputs_right(bits, ones, size, weights) {
         return refused(Condition::WrongChoice);
     }
-    let mut keys = [0u32; WORDS];
+    let mut keys = [0u32; KEYS];
     let n = rank_words(bits, ones, weights, &mut keys);
     let count = size as usize;
     if n < count {

@@ -21,13 +21,13 @@ pub rank_words-n-requires : goal.rank_words-n-requires
 rank_words-n-requires c =
     let a = c.args in
     let i = inputs_say a.bits a.ones a.size a.weights.now (sym c.inputs_right.ensures ∙ c.if-not-inputs_right.false) in
-    (i.given.bits, i.given.count, i.given.right, refl, refl)
+    (i.given.bits, i.given.count, i.given.right, refl)
 
 pub returns-then-n-count : goal.returns-then-n-count
 returns-then-n-count c =
     let a = c.args in
     let r = c.rank_words-n in
-    let k = ranks a.bits a.ones a.size a.weights.now (sym c.inputs_right.ensures ∙ c.if-not-inputs_right.false) r.result r.new.keys r.ensures in
+    let k = ranks a.bits a.ones a.size a.weights.now (sym c.inputs_right.ensures ∙ c.if-not-inputs_right.false) r.result r.new.into r.ensures in
     let q = c.refused-then-n-count.ensures ∙ k.too_few c.if-n-count.true in
     record { set_value = q; choice = choices a.bits a.ones a.size a.weights.now _ _ q }
 
@@ -35,42 +35,42 @@ pub slice_bounds-keys-end : goal.slice_bounds-keys-end
 slice_bounds-keys-end c =
     let a = c.args in
     let r = c.rank_words-n in
-    let k = ranks a.bits a.ones a.size a.weights.now (sym c.inputs_right.ensures ∙ c.if-not-inputs_right.false) r.result r.new.keys r.ensures in
-    omega (arith, r.auto.keys, k.few)
+    let k = ranks a.bits a.ones a.size a.weights.now (sym c.inputs_right.ensures ∙ c.if-not-inputs_right.false) r.result r.new.into r.ensures in
+    omega (arith, r.auto.into, k.few)
 
 pub slice_bounds-ranked-end : goal.slice_bounds-ranked-end
 slice_bounds-ranked-end c =
     let a = c.args in
     let r = c.rank_words-n in
-    let k = ranks a.bits a.ones a.size a.weights.now (sym c.inputs_right.ensures ∙ c.if-not-inputs_right.false) r.result r.new.keys r.ensures in
+    let k = ranks a.bits a.ones a.size a.weights.now (sym c.inputs_right.ensures ∙ c.if-not-inputs_right.false) r.result r.new.into r.ensures in
     sym k.long
 
 pub lowest_run-at-requires : goal.lowest_run-at-requires
 lowest_run-at-requires c =
     let a = c.args in
     let r = c.rank_words-n in
-    let k = ranks a.bits a.ones a.size a.weights.now (sym c.inputs_right.ensures ∙ c.if-not-inputs_right.false) r.result r.new.keys r.ensures in
+    let k = ranks a.bits a.ones a.size a.weights.now (sym c.inputs_right.ensures ∙ c.if-not-inputs_right.false) r.result r.new.into r.ensures in
     (k.some, omega (arith, k.long, c.if-n-count.false), omega (arith, k.long, k.few))
 
 pub overflow_add-end : goal.overflow_add-end
 overflow_add-end c =
     let a = c.args in
     let r = c.rank_words-n in
-    let k = ranks a.bits a.ones a.size a.weights.now (sym c.inputs_right.ensures ∙ c.if-not-inputs_right.false) r.result r.new.keys r.ensures in
+    let k = ranks a.bits a.ones a.size a.weights.now (sym c.inputs_right.ensures ∙ c.if-not-inputs_right.false) r.result r.new.into r.ensures in
     record { fits = omega (arith, k.long, k.few, c.lowest_run-at.ensures.0) }
 
 pub offset_bounds-ranked-at : goal.offset_bounds-ranked-at
 offset_bounds-ranked-at c =
     let a = c.args in
     let r = c.rank_words-n in
-    let k = ranks a.bits a.ones a.size a.weights.now (sym c.inputs_right.ensures ∙ c.if-not-inputs_right.false) r.result r.new.keys r.ensures in
+    let k = ranks a.bits a.ones a.size a.weights.now (sym c.inputs_right.ensures ∙ c.if-not-inputs_right.false) r.result r.new.into r.ensures in
     record { fits = omega (arith, k.long, k.few, c.lowest_run-at.ensures.0) }
 
 pub set_of-set-requires : goal.set_of-set-requires
 set_of-set-requires c =
     let a = c.args in
     let r = c.rank_words-n in
-    let k = ranks a.bits a.ones a.size a.weights.now (sym c.inputs_right.ensures ∙ c.if-not-inputs_right.false) r.result r.new.keys r.ensures in
+    let k = ranks a.bits a.ones a.size a.weights.now (sym c.inputs_right.ensures ∙ c.if-not-inputs_right.false) r.result r.new.into r.ensures in
     let f = k.fits in
     simp (length-take, length-drop) (omega arith)
 
@@ -78,11 +78,11 @@ pub returns : goal.returns
 returns c =
     let a = c.args in
     let r = c.rank_words-n in
-    let k = ranks a.bits a.ones a.size a.weights.now (sym c.inputs_right.ensures ∙ c.if-not-inputs_right.false) r.result r.new.keys r.ensures in
+    let k = ranks a.bits a.ones a.size a.weights.now (sym c.inputs_right.ensures ∙ c.if-not-inputs_right.false) r.result r.new.into r.ensures in
     let b = c.lowest_run-at in
     let m : b.result + a.size - b.result ≡ a.size = omega arith in
     let q =
     k.enough c.if-n-count.false b.result b.ensures.1 _
-    (c.set_of-set.ensures ∙ ap (λ (j : ℕ). set_of (map word_of (take j (drop b.result (take r.result r.new.keys))))) m)
+    (c.set_of-set.ensures ∙ ap (λ (j : ℕ). set_of (map word_of (take j (drop b.result (take r.result r.new.into))))) m)
     in
     record { set_value = q; choice = choices a.bits a.ones a.size a.weights.now _ _ q }
