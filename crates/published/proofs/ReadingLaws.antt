@@ -11,7 +11,6 @@ use lib.Dec.{eqb, ltb}
 use borrow.Author.Tests.{ltb-false}
 use Rattle.std.specs.Prelude.{Option, Some, None, position, unwrap_or}
 use Rattle.std.specs.List.{position_or_len}
-use Rattle.std.specs.Str.{bytes_eq}
 use Rattle.std.proofs.Common.{min}
 use Rattle.std.proofs.lemmas.List.{take_min, drop_min}
 use Rattle.std.proofs.lemmas.List.Recursion.{is_position_or_len}
@@ -75,13 +74,27 @@ pub after_cut : (s : List ℕ) (n k : ℕ) → drop k (take (length s - n) (drop
     → take (length (take (length s - n) (drop n s)) - k) (drop k (take (length s - n) (drop n s))) ≡ trimmed (drop n s)
 after_cut s n k f = rest_all (take (length s - n) (drop n s)) k ∙ f ∙ ap trimmed (rest_all s n)
 
--- ---- equal bytes
+-- ---- equal bytes, at a position
 
-pub same_bytes_is : (x y : List ℕ) → bytes_eq x y ≡ same_bytes x y
-same_bytes_is [] [] = refl
-same_bytes_is [] (b ∷ y) = refl
-same_bytes_is (a ∷ x) [] = refl
-same_bytes_is (a ∷ x) (b ∷ y) = ap (λ (t : Bool). eqb a b && t) (same_bytes_is x y)
+pub other_length : (x y : List ℕ) → (length x ≡ length y → ⊥) → same_bytes x y ≡ false
+other_length [] [] h = absurd (h refl)
+other_length [] (b ∷ y) h = refl
+other_length (a ∷ x) [] h = refl
+other_length (a ∷ x) (b ∷ y) h = by (eqb a b) (other_length x y (λ e. h (ap suc e)))
+  where
+    by : (t : Bool) → same_bytes x y ≡ false → (t && same_bytes x y) ≡ false
+    by true e = e
+    by false e = refl
+
+pub same_more : (x y : List ℕ) (i : ℕ) → i < length x → i < length y → (t : Bool) → (t && eqb (get_or x i 0) (get_or y i 0)) && same_bytes (drop (i + 1) x) (drop (i + 1) y) ≡ t && same_bytes (drop i x) (drop i y)
+same_more x y i h g true = rw (drop-cons x i 0 h, drop-cons y i 0 g, add-one)
+same_more x y i h g false = refl
+
+pub same_none : (x y : List ℕ) (i : ℕ) → length x ≤ i → length y ≤ i → same_bytes (drop i x) (drop i y) ≡ true
+same_none x y i h g =
+    let e : drop i x ≡ [] = drop_of_length-le x h in
+    let f : drop i y ≡ [] = drop_of_length-le y g in
+    rw (e, f)
 
 -- ---- parts of a text
 

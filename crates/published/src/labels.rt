@@ -1,6 +1,7 @@
 // Labels: which names are right, and the table in which each is kept as a place of the text. Names are looked up in buckets, so that a
 // listing full of jumps costs no more than another.
 ghost use Rattle.std.specs.Prelude.{◌≡◌, ◌+◌, ◌*◌, ◌%◌, ◌<◌, take, drop};
+ghost use Rattle.model.specs.Text.{same_bytes};
 ghost use Rattle.text.specs.Fields.{found};
 ghost use Rattle.published.specs.Published.{all_alphanumeric, is_name, find as findLabel, is_within};
 ghost use Rattle.published.specs.Table.{bucket_of, buckets, entries, Linked, Added};
@@ -62,6 +63,20 @@ fn is_name(s: &[u8]) -> bool
     0 < s.len() && s.len() <= MAX_NAME && all_alphanumeric(s)
 }
 
+// The same bytes. All are looked at here too, where `==` ends early.
+fn is_same(x: &[u8], y: &[u8]) -> bool
+    ensures { result ≡ same_bytes x.now y.now }
+{
+    if x.len() != y.len() {
+        return false;
+    }
+    let mut same = true;
+    for i in 0..x.len() {
+        same &= x[i] == y[i];
+    }
+    same
+}
+
 // A number of the bytes so far, and one more.
 fn mixed(h: usize, b: u8) -> usize
     requires { h < 65536 }
@@ -103,7 +118,7 @@ impl<'t> Labels<'t> {
         let mut k = self.heads[h];
         while 0 < k {
             let l = self.table[k - 1];
-            if part(self.text, l.start, l.size) == name {
+            if is_same(part(self.text, l.start, l.size), name) {
                 return Some(l.line);
             }
             k = l.before;

@@ -4,7 +4,6 @@ use Prim.Native.Nat.{ℕ, ◌-◌}
 use mathlib.Core.List.{List}
 use native.Mathlib.Omega.{arith}
 use Rattle.model.specs.Text.{same_bytes}
-use Rattle.published.proofs.ReadingLaws.{same_bytes_is}
 use Rattle.published.proofs.TableLaws.{sought_first, sought_there, sought_next, sought_less, sought_none, entry_name}
 use Rattle.published.proofs.labels.Labels.find.Goals as goal
 
@@ -17,9 +16,9 @@ loop-k-init c = sought_first c.args.self.now.text.now c.args.self.now.heads c.ar
 pub bounds-self-k : goal.bounds-self-k
 bounds-self-k c = omega (arith, c.args.self.now.linked.few, c.args.self.now.linked.room, c.loop-k.invariant.few, c.loop-k-test.true)
 
-pub returns-then-eq : goal.returns-then-eq
-returns-then-eq c =
-    let e = ap (λ (l : List ℕ). same_bytes l c.args.name.now) (sym (c.part.ensures ∙ entry_name c.args.self.now.text.now c.args.self.now.table (c.loop-k.k - 1))) ∙ sym (c.eq.ensures ∙ same_bytes_is c.part.result.now c.args.name.now) ∙ c.if-eq.true in
+pub returns-then-is_same : goal.returns-then-is_same
+returns-then-is_same c =
+    let e = ap (λ (l : List ℕ). same_bytes l c.args.name.now) (sym (c.part.ensures ∙ entry_name c.args.self.now.text.now c.args.self.now.table (c.loop-k.k - 1))) ∙ sym c.is_same.ensures ∙ c.if-is_same.true in
     sought_there c.args.self.now.text.now c.args.self.now.heads c.args.self.now.table c.args.self.now.count c.args.name.now c.args.self.now.linked c.loop-k.k c.loop-k.invariant c.loop-k-test.true e
 
 pub loop-k-smaller : goal.loop-k-smaller
@@ -27,7 +26,7 @@ loop-k-smaller c = sought_less c.args.self.now.text.now c.args.self.now.heads c.
 
 pub loop-k-preserved : goal.loop-k-preserved
 loop-k-preserved c =
-    let e = ap (λ (l : List ℕ). same_bytes l c.args.name.now) (sym (c.part.ensures ∙ entry_name c.args.self.now.text.now c.args.self.now.table (c.loop-k.k - 1))) ∙ sym (c.eq.ensures ∙ same_bytes_is c.part.result.now c.args.name.now) ∙ c.if-eq.false in
+    let e = ap (λ (l : List ℕ). same_bytes l c.args.name.now) (sym (c.part.ensures ∙ entry_name c.args.self.now.text.now c.args.self.now.table (c.loop-k.k - 1))) ∙ sym c.is_same.ensures ∙ c.if-is_same.false in
     sought_next c.args.self.now.text.now c.args.self.now.heads c.args.self.now.table c.args.self.now.count c.args.name.now c.args.self.now.linked c.loop-k.k c.loop-k.invariant c.loop-k-test.true e
 
 pub returns : goal.returns
