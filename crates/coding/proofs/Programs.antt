@@ -1,6 +1,7 @@
 -- The check of a stored program, line by line. Assumes nothing.
 use mathlib.Core.Path.{◌≡◌}
 use mathlib.Core.List.{List}
+use mathlib.Core.Logic.{◌⊎◌, inl, inr}
 use Prim.Native.Nat.{ℕ, suc, ◌+◌, ◌-◌, ◌<◌, ◌≤◌}
 use native.Mathlib.Omega.{arith}
 use borrow.Author.Tests.{eq-eqb, ne_eqb, lt-ltb, le-ltb}
@@ -35,3 +36,8 @@ begins p h =
 pub too_long : (p : List ℕ) → max_lines < line_count p → refused 7 max_lines ≡ program_check p
 unfolding program_check
 too_long p h = rw (lt-ltb _ _ h)
+
+-- a fault that is one is 3 to 6
+pub some_fault : (k : ℕ) → (k ≡ 0) ⊎ ((3 ≤ k) × (k ≤ 6)) → (k ≡ 0 → ⊥) → (3 ≤ k) × (k ≤ 6)
+some_fault k (inl e) h = absurd (h e)
+some_fault k (inr f) h = f

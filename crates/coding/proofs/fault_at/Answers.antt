@@ -3,4 +3,4 @@ use mathlib.Core.Path.{◌∙◌}
 use Rattle.coding.proofs.fault_at.Goals as goal
 
 pub returns : goal.returns
-returns c = c.fault_of.ensures ∙ rw c.numbers_at-n.ensures
+returns c = record { value = c.fault_number.ensures.value ∙ rw c.numbers_at-n.ensures; few = c.fault_number.ensures.few }

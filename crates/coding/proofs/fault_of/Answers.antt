@@ -1,20 +1,14 @@
--- `coding::fault_of` meets its contract: the code makes the tests of the chain that proofs/Faults ties to the definition. Assumes nothing.
+-- `coding::fault_of` meets its contract: the number is told, and its condition. Assumes nothing.
 use mathlib.Core.Path.{sym, ◌∙◌}
-use borrow.Author.Tests.{lt-ltb, le-ltb}
-use Rattle.coding.proofs.Faults.{chain, shaped_chain}
+use native.Mathlib.Omega.{arith}
+use Rattle.coding.proofs.Programs.{some_fault}
 use Rattle.coding.proofs.fault_of.Goals as goal
 
-pub returns-then-m-ge-MARKS : goal.returns-then-m-ge-MARKS
-returns-then-m-ge-MARKS c = let x = c.args in sym (chain x.m x.o x.d x.a x.b x.t ∙ rw (le-ltb _ _ c.if-m-ge-MARKS.true))
+pub returns-then-number-eq0 : goal.returns-then-number-eq0
+returns-then-number-eq0 c = sym c.if-number-eq0.true ∙ c.fault_number-number.ensures.value
 
-pub returns-then-o-ge-OPCODES : goal.returns-then-o-ge-OPCODES
-returns-then-o-ge-OPCODES c = let x = c.args in sym (chain x.m x.o x.d x.a x.b x.t ∙ rw (lt-ltb _ _ c.if-m-ge-MARKS.false, le-ltb _ _ c.if-o-ge-OPCODES.true))
-
-pub returns-then-not-is_shaped : goal.returns-then-not-is_shaped
-returns-then-not-is_shaped c = let x = c.args in sym (shaped_chain x.m x.o x.d x.a x.b x.t c.if-m-ge-MARKS.false c.if-o-ge-OPCODES.false ∙ rw (← c.is_shaped.ensures, c.if-not-is_shaped.true))
-
-pub returns-then-not-is_in_range : goal.returns-then-not-is_in_range
-returns-then-not-is_in_range c = let x = c.args in sym (shaped_chain x.m x.o x.d x.a x.b x.t c.if-m-ge-MARKS.false c.if-o-ge-OPCODES.false ∙ rw (← c.is_shaped.ensures, c.if-not-is_shaped.false, ← c.is_in_range.ensures, c.if-not-is_in_range.true))
+pub condition_of-requires : goal.condition_of-requires
+condition_of-requires c = some_fault _ c.fault_number-number.ensures.few c.if-number-eq0.false
 
 pub returns : goal.returns
-returns c = let x = c.args in sym (shaped_chain x.m x.o x.d x.a x.b x.t c.if-m-ge-MARKS.false c.if-o-ge-OPCODES.false ∙ rw (← c.is_shaped.ensures, c.if-not-is_shaped.false, ← c.is_in_range.ensures, c.if-not-is_in_range.false))
+returns c = c.condition_of.ensures ∙ c.fault_number-number.ensures.value
