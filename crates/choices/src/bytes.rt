@@ -39,7 +39,8 @@ pub fn is_several(sets: &[u8; SETS_SIZE], i: usize) -> bool
 }
 
 // Writes the bytes of a place's set.
-pub fn put_set(sets: &mut [u8; SETS_SIZE], i: usize, new: &[u8; ROOM])
+pub fn put_set(sets: &mut [u8; SETS_SIZE], i: usize, new: &[u8])
+    requires { set_width ≤ length new.now }
     ensures { lists_of sets.new ≡ set (lists_of sets.old) i (listed (take set_width new.now)) }
 {
     if STATE_SIZE <= i {

@@ -20,6 +20,8 @@ use tables::{Masks, Weights};
 pub mod steps;
 pub mod tables;
 
+pub use tables::PLACES;
+
 // The Hamming distance.
 #[tactic(auto, unfolding(model::specs::Step::distance))]
 pub fn distance(x: u16, y: u16) -> u16

@@ -30,11 +30,11 @@ pub struct Watch {
 }
 
 // One watch before the first step: nothing but its place is kept.
-fn fresh(w: Watch, state: &[u8]) -> Watch
-    ensures { result ≡ fresh state.now w }
+fn fresh(w: Watch, start: &[u8]) -> Watch
+    ensures { result ≡ fresh start.now w }
 {
     Watch {
-        value: machine::read(state, w.place as usize),
+        value: machine::read(start, w.place as usize),
         ..unused(w.place)
     }
 }

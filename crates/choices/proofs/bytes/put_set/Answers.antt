@@ -18,4 +18,4 @@ returns c =
     let k = set_width * c.args.i in
     let new = take set_width c.args.new.now in
     ap (λ (u : List ℕ). lists_of (put_mid k (k + set_width - k) c.args.sets.now u)) c.copy_from_slice.ensures.after
-    ∙ lists_put c.args.sets.now c.told-sets c.args.i c.if-i-ge-STATE_SIZE.false new (length-take-le set_width c.args.new.now (omega (arith, c.told-new)))
+    ∙ lists_put c.args.sets.now c.told-sets c.args.i c.if-i-ge-STATE_SIZE.false new (length-take-le set_width c.args.new.now c.requires)
